@@ -1,0 +1,68 @@
+-- The number and the values of paper 01 that each case of an answer's enum stands for. The promises of the public calls use these.
+use Prim.Native.Nat.{ℕ}
+use mathlib.Core.Bool.{Bool}
+use mathlib.Core.List.{List}
+use lib.ListN.{length}
+use lib.Ieee.{Float}
+use Rattle.lxt_format.specs.Basics.{Answer, given, refused}
+use Rattle.lxt_format.specs.Values.{Content, bits, real, text, notDriven}
+use Rattle.lxt_format.specs.declared.Summary.{Summary}
+use Rattle.lxt_format.specs.declared.Facts.{Facts}
+use Rattle.lxt_format.specs.declared.Judgement.{Judgement}
+use Rattle.lxt_format.specs.declared.Judgement.the-variants as ofJudgement
+use Rattle.lxt_format.specs.declared.FactsAnswer.{FactsAnswer}
+use Rattle.lxt_format.specs.declared.FactsAnswer.the-variants as ofFacts
+use Rattle.lxt_format.specs.declared.NumberAnswer.{NumberAnswer}
+use Rattle.lxt_format.specs.declared.NumberAnswer.the-variants as ofNumber
+use Rattle.lxt_format.specs.declared.Value.{Value}
+use Rattle.lxt_format.specs.declared.Value.the-variants as ofValue
+use Rattle.lxt_format.specs.declared.TimedValue.{TimedValue}
+use Rattle.lxt_format.specs.declared.StartAnswer.{StartAnswer}
+use Rattle.lxt_format.specs.declared.StartAnswer.the-variants as ofStart
+use Rattle.lxt_format.specs.declared.CarryAnswer.{CarryAnswer}
+use Rattle.lxt_format.specs.declared.CarryAnswer.the-variants as ofCarry
+
+abbrev pub judgementSays : Judgement → Answer Summary
+judgementSays (ofJudgement.Accepted summary) = given summary
+judgementSays (ofJudgement.Refused n) = refused n
+
+abbrev pub factsSay : FactsAnswer → Answer Facts
+factsSay (ofFacts.Known facts) = given facts
+factsSay (ofFacts.Refused n) = refused n
+
+abbrev pub numberSays : NumberAnswer → Answer ℕ
+numberSays (ofNumber.Number k) = given k
+numberSays (ofNumber.Refused n) = refused n
+
+-- What is answered of a value: of bits the width, since their symbols stand in the lent buffer
+pub data Shown : Type 0 where
+  bitsOf : ℕ → Shown
+  realOf : Float → ℕ → Shown
+  textOf : ℕ → ℕ → Shown
+  nothing : Shown
+
+abbrev pub shown : Content → Shown
+shown (bits symbols) = bitsOf (length symbols)
+shown (real x b) = realOf x b
+shown (text start size) = textOf start size
+shown notDriven = nothing
+
+abbrev pub valueSays : Value → Answer Shown
+valueSays (ofValue.Bits width) = given (bitsOf width)
+valueSays (ofValue.Real x b) = given (realOf x b)
+valueSays (ofValue.Text start size) = given (textOf start size)
+valueSays ofValue.NotDriven = given nothing
+valueSays (ofValue.Refused n) = refused n
+
+-- a change's time, 0 where it is refused, and its value
+abbrev pub timedSays : TimedValue → ℕ × Answer Shown
+timedSays t = (t .time, valueSays (t .value))
+
+abbrev pub startSays : StartAnswer → Answer (Unit {0})
+startSays ofStart.Started = given tt
+startSays (ofStart.Refused n) = refused n
+
+-- how many pairs were handed out, and whether all pending offsets are 0
+abbrev pub carrySays : CarryAnswer → Answer (ℕ × Bool)
+carrySays (ofCarry.Handed count done) = given (count, done)
+carrySays (ofCarry.Refused n) = refused n

@@ -1,0 +1,36 @@
+-- Numbers in a file. A file is a list of bytes; past its end a byte counts as 0, so that every definition is total.
+use Prim.Native.Nat.{ℕ, zero, suc, _+_, _*_, _-_, _^_}
+use mathlib.Core.Bool.{Bool, true, false}
+use mathlib.Core.List.{List, [], _∷_}
+use lib.ListN.{getD}
+use lib.IntN.{ℤ, pos, negsuc}
+use lib.Dec.{ltb, eqb}
+use Rattle.lxt_format.specs.Basics.{if_then_else_}
+
+abbrev pub byteAt : List ℕ → ℕ → ℕ
+byteAt s o = getD s o 0
+
+-- "All integers are big-endian." The number in k bytes from offset o on
+unfoldable pub numberAt : ℕ → List ℕ → ℕ → ℕ
+numberAt zero s o = 0
+numberAt (suc k) s o = byteAt s o * 256 ^ k + numberAt k s (suc o)
+
+unfoldable pub u16At : List ℕ → ℕ → ℕ
+u16At s o = numberAt 2 s o
+
+unfoldable pub u32At : List ℕ → ℕ → ℕ
+u32At s o = numberAt 4 s o
+
+-- k such numbers one after the other, 4 bytes each
+unfoldable pub u32sAt : ℕ → List ℕ → ℕ → List ℕ
+u32sAt zero s o = []
+u32sAt (suc k) s o = u32At s o ∷ u32sAt k s (o + 4)
+
+-- a number of 8 or 32 bits read as signed: in its upper half it stands for itself less 2 ^ bits
+unfoldable pub signed : ℕ → ℕ → ℤ
+signed bits x = if ltb x (2 ^ (bits - 1)) then pos x else negsuc (2 ^ bits - 1 - x)
+
+-- how many bytes stand before the first zero; all where there is none
+unfoldable pub toZero : List ℕ → ℕ
+toZero [] = 0
+toZero (b ∷ l) = if eqb b 0 then 0 else suc (toZero l)

@@ -1,0 +1,77 @@
+-- Paper 01, "Refusal numbers": the refusals of a file, 1 to 17, in their order.
+use Prim.Native.Nat.{ℕ, _+_}
+use mathlib.Core.Bool.{Bool, true, false, not, _&&_, _||_}
+use mathlib.Core.List.{List, [], _∷_, map}
+use lib.Dec.{leb, eqb}
+use Rattle.lxt_format.specs.Basics.{if_then_else_, _unless_, _orElse_, Answer, answer, all, joined, firstFault}
+use Rattle.lxt_format.specs.Sections.{lengthAllowed, startsRight, endsRight, listingOf, nothingCompressed, present, sectionsPresent, bodiesInside, countAllowed, facilityCount, changesFrom, endOf, timescaleOf, initialOf}
+use Rattle.lxt_format.specs.Names.{namesAllowed}
+use Rattle.lxt_format.specs.Geometry.{geometriesAllowed, aliasesAllowed, rootsOf, ownFacts, syncOf}
+use Rattle.lxt_format.specs.Times.{timesAllowed}
+use Rattle.lxt_format.specs.Reals.{realTestAllowed}
+use Rattle.lxt_format.specs.Changes.{chainOf, chainFault, changeEnd}
+use Rattle.lxt_format.specs.declared.Pair.{Pair}
+use Rattle.lxt_format.specs.declared.Summary.{Summary}
+
+-- checks 1 to 14, which carrying on makes too
+unfoldable pub tablesRefusal : List ℕ → ℕ
+tablesRefusal s =
+    1 unless lengthAllowed s
+    orElse 2 unless startsRight s
+    orElse 3 unless endsRight s
+    orElse 4 unless (listingOf s .listed)
+    orElse 5 unless nothingCompressed s
+    orElse 6 unless not (present s 0x09)
+    orElse 7 unless sectionsPresent s
+    orElse 8 unless bodiesInside s
+    orElse 9 unless countAllowed (facilityCount s)
+    orElse 10 unless namesAllowed s
+    orElse 11 unless geometriesAllowed s
+    orElse 12 unless aliasesAllowed s
+    orElse 13 unless timesAllowed s
+    orElse 14 unless realTestAllowed s
+
+-- the fault of the chain from the offset o on, read with the kind and width of the root f
+unfoldable pub faultFrom : List ℕ → ℕ → ℕ → ℕ
+faultFrom s f o = chainFault s (changesFrom s) (endOf s) (ownFacts s f .kind) (ownFacts s f .width) o
+
+-- "15 and 16: facilities that are roots in order, newest change first; the first fault gives the number."
+unfoldable pub chainsRefusal : List ℕ → ℕ
+chainsRefusal s = firstFault (map (λ f. faultFrom s f (syncOf s f)) (rootsOf s))
+
+-- the changes of the root f, newest first
+unfoldable pub changesOf : List ℕ → ℕ → List Pair
+changesOf s f = map (λ o. record { number = f; offset = o }) (chainOf s (syncOf s f))
+
+-- the changes of all roots: "one offset reached from two roots counts as two changes"
+unfoldable pub allChanges : List ℕ → List Pair
+allChanges s = joined (changesOf s) (rootsOf s)
+
+-- the offset after the last byte of a change
+unfoldable pub endAt : List ℕ → Pair → ℕ
+endAt s p = changeEnd s (endOf s) (ownFacts s (p .number) .kind) (ownFacts s (p .number) .width) (p .offset)
+
+-- two changes share no byte
+unfoldable pub apart : (Pair → ℕ) → Pair → Pair → Bool
+apart end p q = leb (end p) (q .offset) || leb (end q) (p .offset)
+
+-- a relation holds of any two, the earlier first
+unfoldable pub pairwise : {A : Type 0} → (A → A → Bool) → List A → Bool
+pairwise r [] = true
+pairwise r (x ∷ l) = all (r x) l && pairwise r l
+
+-- 17: "two changes, of one root or two, share a byte"
+unfoldable pub changesApart : List ℕ → Bool
+changesApart s = pairwise (apart (endAt s)) (allChanges s)
+
+-- the refusal of a file, or 0 where it is accepted
+unfoldable pub fileRefusal : List ℕ → ℕ
+fileRefusal s = tablesRefusal s orElse chainsRefusal s orElse 17 unless changesApart s
+
+unfoldable pub summaryOf : List ℕ → Summary
+summaryOf s =
+    record { facilities = facilityCount s; changes = changesFrom s; end = endOf s; timescale = timescaleOf s; initial = initialOf s }
+
+-- "Judge: n, C, T, timescale and initial symbol, or a refusal."
+unfoldable pub judge : List ℕ → Answer Summary
+judge s = answer (fileRefusal s) (summaryOf s)

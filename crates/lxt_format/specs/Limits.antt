@@ -1,0 +1,17 @@
+-- "Each limit is named once, with the thing it limits: file 6 to 16,777,216 bytes; facilities 0 to 4,096; name 0 to 1,023 bytes; width 1 to 4,096 bits."
+use Prim.Native.Nat.{ℕ}
+
+abbrev pub shortestFile : ℕ
+shortestFile = 6
+
+abbrev pub longestFile : ℕ
+longestFile = 16777216
+
+abbrev pub mostFacilities : ℕ
+mostFacilities = 4096
+
+abbrev pub longestName : ℕ
+longestName = 1023
+
+abbrev pub widestFacility : ℕ
+widestFacility = 4096

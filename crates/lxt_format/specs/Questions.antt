@@ -1,0 +1,149 @@
+-- Paper 01, "What can be asked": each question's answer, and what everything lent holds afterwards.
+-- "Every call judges the file first, except carrying on: it does checks 1 to 14, then 20 to 21."
+use Prim.Native.Nat.{ℕ, _+_, _*_, _-_}
+use mathlib.Core.Bool.{Bool, true, false, not, _&&_}
+use mathlib.Core.List.{List, [], _∷_, _++_}
+use lib.ListN.{length, take, drop, replicate}
+use lib.Dec.{ltb, leb, eqb}
+use Rattle.lxt_format.specs.Limits.{longestName}
+use Rattle.lxt_format.specs.Basics.{if_then_else_, _unless_, _orElse_, Answer, answer, lentAfter, any}
+use Rattle.lxt_format.specs.Sections.{facilityCount}
+use Rattle.lxt_format.specs.Names.{nameOf}
+use Rattle.lxt_format.specs.Geometry.{rootOf, factsOf, syncOf}
+use Rattle.lxt_format.specs.Times.{timeOf}
+use Rattle.lxt_format.specs.Changes.{chainOf, previousOf}
+use Rattle.lxt_format.specs.Values.{Content, bits, real, text, notDriven, contentOf, contentAt}
+use Rattle.lxt_format.specs.Judge.{tablesRefusal, fileRefusal}
+use Rattle.lxt_format.specs.Answers.{Shown, shown}
+use Rattle.lxt_format.specs.Walk.{startOffsets, withOffsets, offsetsOf, recordAllowed, high, handedOut, offsetsAfter, flat}
+use Rattle.lxt_format.specs.declared.Facts.{Facts}
+use Rattle.lxt_format.specs.declared.Pair.{Pair}
+
+-- ---- a facility
+
+-- 18: "facility number not below n"
+unfoldable pub facilityRefusal : List ℕ → ℕ → ℕ
+facilityRefusal s f = fileRefusal s orElse 18 unless ltb f (facilityCount s)
+
+-- "Facts of a facility; its root."
+unfoldable pub factsAsked : List ℕ → ℕ → Answer Facts
+factsAsked s f = answer (facilityRefusal s f) (factsOf s f)
+
+unfoldable pub rootAsked : List ℕ → ℕ → Answer ℕ
+rootAsked s f = answer (facilityRefusal s f) (rootOf s f)
+
+-- ---- its name
+
+-- 21: "too little room: names 1,023"
+unfoldable pub nameRefusal : List ℕ → ℕ → ℕ → ℕ
+nameRefusal s f room = facilityRefusal s f orElse 21 unless leb longestName room
+
+-- "Number or length is one call's answer"
+unfoldable pub nameAsked : List ℕ → ℕ → ℕ → Answer ℕ
+nameAsked s f room = answer (nameRefusal s f room) (length (nameOf s f))
+
+-- "the part another's .., empty exactly where the name is empty or refused"
+unfoldable pub namePart : List ℕ → ℕ → ℕ → List ℕ
+namePart s f room = lentAfter (nameRefusal s f room) (nameOf s f) []
+
+-- "the name is a part of the lent names buffer, its first bytes. The rest up to 1,023 becomes zero, bytes from there on stay."
+unfoldable pub holdingName : List ℕ → List ℕ → List ℕ
+holdingName name buffer = name ++ (replicate (longestName - length name) 0 ++ drop longestName buffer)
+
+unfoldable pub nameBuffer : List ℕ → ℕ → List ℕ → List ℕ
+nameBuffer s f buffer = lentAfter (nameRefusal s f (length buffer)) (holdingName (nameOf s f) buffer) buffer
+
+-- ---- its changes and values: "An alias is asked as its root."
+
+-- the chain of a facility
+unfoldable pub chainAsked : List ℕ → ℕ → List ℕ
+chainAsked s f = chainOf s (syncOf s (rootOf s f))
+
+-- 19: "offset is not on that root's chain"
+unfoldable pub changeRefusal : List ℕ → ℕ → ℕ → ℕ
+changeRefusal s f o = facilityRefusal s f orElse 19 unless any (eqb o) (chainAsked s f)
+
+-- "The change before a given change (0 if none)"
+unfoldable pub beforeAsked : List ℕ → ℕ → ℕ → Answer ℕ
+beforeAsked s f o = answer (changeRefusal s f o) (previousOf s o)
+
+-- the symbols that a value writes
+unfoldable pub written : Content → List ℕ
+written (bits symbols) = symbols
+written (real x b) = []
+written (text start size) = []
+written notDriven = []
+
+-- "Written bits fill the first width bytes; the rest stays."
+unfoldable pub holdingBits : Content → List ℕ → List ℕ
+holdingBits value buffer = written value ++ drop (length (written value)) buffer
+
+-- 21: "too little room: .. bits the width"
+unfoldable pub readingRefusal : List ℕ → ℕ → ℕ → ℕ → ℕ
+readingRefusal s f o room = changeRefusal s f o orElse 21 unless leb (factsOf s f .width) room
+
+-- "a change's time and value"
+unfoldable pub changeAsked : List ℕ → ℕ → ℕ → ℕ → ℕ × Answer Shown
+changeAsked s f o room =
+    let refusal : ℕ = readingRefusal s f o room in
+    (if eqb refusal 0 then timeOf s o else 0, answer refusal (shown (contentOf s (rootOf s f) o)))
+
+unfoldable pub changeBuffer : List ℕ → ℕ → ℕ → List ℕ → List ℕ
+changeBuffer s f o buffer = lentAfter (readingRefusal s f o (length buffer)) (holdingBits (contentOf s (rootOf s f) o) buffer) buffer
+
+-- "the value at a time"
+unfoldable pub valueRefusal : List ℕ → ℕ → ℕ → ℕ
+valueRefusal s f room = facilityRefusal s f orElse 21 unless leb (factsOf s f .width) room
+
+unfoldable pub valueAsked : List ℕ → ℕ → ℕ → ℕ → Answer Shown
+valueAsked s f t room = answer (valueRefusal s f room) (shown (contentAt s (rootOf s f) t))
+
+unfoldable pub valueBuffer : List ℕ → ℕ → ℕ → List ℕ → List ℕ
+valueBuffer s f t buffer = lentAfter (valueRefusal s f (length buffer)) (holdingBits (contentAt s (rootOf s f) t) buffer) buffer
+
+-- ---- start a walk
+
+-- 21: "too little room: .. pairs n"; 22: "asked bytes not n long"
+unfoldable pub startRefusal : List ℕ → List ℕ → ℕ → ℕ
+startRefusal s asked room =
+    fileRefusal s
+    orElse 21 unless leb (facilityCount s) room
+    orElse 22 unless eqb (length asked) (facilityCount s)
+
+unfoldable pub startAsked : List ℕ → List ℕ → ℕ → Answer (Unit {0})
+startAsked s asked room = answer (startRefusal s asked room) tt
+
+unfoldable pub startRecord : List ℕ → List ℕ → List Pair → List Pair
+startRecord s asked pairs = lentAfter (startRefusal s asked (length pairs)) (withOffsets pairs (startOffsets s asked)) pairs
+
+-- ---- carry on with a size
+
+-- "Fewer than n pairs is 21 and is then tested before 20." 21: "output 2s"
+unfoldable pub carryRefusal : List ℕ → List Pair → ℕ → ℕ → ℕ
+carryRefusal s pairs size room =
+    tablesRefusal s
+    orElse 21 unless leb (facilityCount s) (length pairs)
+    orElse 20 unless recordAllowed s pairs
+    orElse 21 unless leb (2 * size) room
+
+-- the pairs that such a call hands out where it is not refused
+unfoldable pub carryPairs : List ℕ → List Pair → ℕ → List Pair
+carryPairs s pairs size = handedOut s size (offsetsOf (facilityCount s) pairs)
+
+-- the pending offsets that it leaves
+unfoldable pub carryOffsets : List ℕ → List Pair → ℕ → List ℕ
+carryOffsets s pairs size = offsetsAfter s size (offsetsOf (facilityCount s) pairs)
+
+-- "It answers how many were handed out and whether all pending offsets are 0."
+unfoldable pub carryAsked : List ℕ → List Pair → ℕ → ℕ → Answer (ℕ × Bool)
+carryAsked s pairs size room =
+    answer (carryRefusal s pairs size room) (length (carryPairs s pairs size), eqb (high (carryOffsets s pairs size)) 0)
+
+unfoldable pub carryRecord : List ℕ → List Pair → ℕ → ℕ → List Pair
+carryRecord s pairs size room = lentAfter (carryRefusal s pairs size room) (withOffsets pairs (carryOffsets s pairs size)) pairs
+
+-- "Output past the pairs written stays."
+unfoldable pub carryOutput : List ℕ → List Pair → ℕ → List ℕ → List ℕ
+carryOutput s pairs size output =
+    let numbers : List ℕ = flat (carryPairs s pairs size) in
+    lentAfter (carryRefusal s pairs size (length output)) (numbers ++ drop (length numbers) output) output

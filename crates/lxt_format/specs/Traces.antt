@@ -1,0 +1,104 @@
+-- The traces that the examples are computed on.
+use Prim.Native.Nat.{ℕ, suc, _*_, _/_, _%_, _^_}
+use mathlib.Core.List.{List, [], _∷_, _++_}
+use Rattle.lxt_format.specs.Changes.{digits}
+
+-- k bytes, written as one number
+unfoldable pub spelled : ℕ → ℕ → List ℕ
+unfolding digits
+spelled k x = digits 8 k x
+
+-- "A whole small trace": 95 bytes, T = 68, C = 4
+unfoldable pub trace : List ℕ
+unfolding spelled
+trace =
+    spelled 4 0x01380004
+    ++ spelled 2 0x0402
+    ++ spelled 2 0x0300
+    ++ spelled 12 0x000000010000000200006100
+    ++ spelled 16 0
+    ++ spelled 4 0x00000006
+    ++ spelled 28 0x00000002000000000000000500000004000000020000000000000005
+    ++ spelled 1 0x00
+    ++ spelled 5 0x0000000401
+    ++ spelled 5 0x0000002402
+    ++ spelled 5 0x0000000803
+    ++ spelled 5 0x0000001404
+    ++ spelled 5 0x0000002806
+    ++ spelled 1 0xB4
+
+-- A trace with every kind, an alias of an alias, a reordered real, C above 4, sections in another order, tags that are skipped and a tag that is met
+-- twice. T = 242. Each line of a section begins at the offset that its comment names.
+unfoldable pub mixed : List ℕ
+unfolding spelled
+mixed =
+    -- frame, version 0
+    spelled 4 0x01380000
+    -- unused: C is 5
+    ++ spelled 1 0xFF
+    -- 5: facility 0, 2 bits a symbol, ZX1
+    ++ spelled 3 0x0103B4
+    -- 8: facility 1, 1 bit a symbol, 258
+    ++ spelled 6 0x000600000102
+    -- 14: facility 2
+    ++ spelled 10 0x070C020103000000F83F
+    -- 24: facility 3, "hi"
+    ++ spelled 5 0x0016686900
+    -- 29: facility 0, two delta bytes, 4 bits a symbol, HU-
+    ++ spelled 5 0x1200164580
+    -- 34: facility 3, an empty text
+    ++ spelled 3 0x000800
+    -- 37: facility 1, all 1
+    ++ spelled 2 0x041B
+    -- 39: times: 14 is at 10, 30 at 20
+    ++ spelled 4 0x00000002
+    ++ spelled 4 0x0000000A
+    ++ spelled 4 0x00000014
+    ++ spelled 4 0x0000000E
+    ++ spelled 4 0x00000010
+    ++ spelled 4 0x0000000A
+    ++ spelled 4 0x0000000A
+    -- 67: sync
+    ++ spelled 4 0x0000001D
+    ++ spelled 4 0x00000025
+    ++ spelled 4 0x0000000E
+    ++ spelled 4 0x00000022
+    ++ spelled 4 0x00000007
+    ++ spelled 4 0x00000000
+    -- 91: geometry
+    ++ spelled 16 0x00000000000000020000000000000000
+    ++ spelled 16 0x00000000000000000000000000000001
+    ++ spelled 16 0x00000000000000000000000000000002
+    ++ spelled 16 0x00000000000000000000000000000004
+    ++ spelled 16 0x00000005000000000000000000000008
+    ++ spelled 16 0x00000000000000090000000900000028
+    -- 187: names: clk, count, volt, msg, clk2, clk3
+    ++ spelled 8 0x000000060000001D
+    ++ spelled 6 0x0000636C6B00
+    ++ spelled 7 0x00016F756E7400
+    ++ spelled 7 0x0000766F6C7400
+    ++ spelled 6 0x00006D736700
+    ++ spelled 7 0x0000636C6B3200
+    ++ spelled 4 0x00033300
+    -- 232: timescale -12
+    ++ spelled 1 0xF4
+    -- 233: initial symbol 1
+    ++ spelled 1 0x01
+    -- 234: real test
+    ++ spelled 8 0x861B6EF0F9210940
+    -- 242: END
+    ++ spelled 1 0x00
+    ++ spelled 5 0x0000000501
+    ++ spelled 5 0x0000004302
+    ++ spelled 5 0x000000BB03
+    ++ spelled 5 0x0000005B04
+    ++ spelled 5 0x000000E805
+    ++ spelled 5 0x0000002706
+    ++ spelled 5 0x000000E907
+    ++ spelled 5 0x000000EA08
+    ++ spelled 5 0x0000004D20
+    ++ spelled 5 0x0000005813
+    ++ spelled 5 0x0000006314
+    ++ spelled 5 0x0000000401
+    -- last byte
+    ++ spelled 1 0xB4

@@ -1,0 +1,70 @@
+-- Paper 01, "One change and its chain": the values of changes.
+use Prim.Native.Nat.{ℕ, _+_, _-_, max}
+use mathlib.Core.Bool.{Bool, true, false}
+use mathlib.Core.List.{List, [], _∷_, map}
+use lib.ListN.{length, getD, replicate}
+use lib.Seq.{slice}
+use lib.Dec.{leb, eqb}
+use lib.Ieee.{Float}
+use Rattle.lxt_format.specs.Basics.{if_then_else_}
+use Rattle.lxt_format.specs.Bytes.{toZero}
+use Rattle.lxt_format.specs.Sections.{endOf, initialOf}
+use Rattle.lxt_format.specs.Geometry.{ownFacts, syncOf}
+use Rattle.lxt_format.specs.Times.{timeOf}
+use Rattle.lxt_format.specs.Reals.{realBits, realOf}
+use Rattle.lxt_format.specs.Changes.{commandOf, dataAt, symbolSize, codesAt, chainOf}
+use Rattle.lxt_format.specs.declared.Kind.{Kind}
+use Rattle.lxt_format.specs.declared.Kind.the-variants.{Bits, Integer, Real, Text}
+
+-- "A value is bits, a real number or a text." Bits are their symbols; a real has its 64 bits beside it; a text is its start and length in the file.
+-- The last is the answer "not driven".
+pub data Content : Type 0 where
+  bits : List ℕ → Content
+  real : Float → ℕ → Content
+  text : ℕ → ℕ → Content
+  notDriven : Content
+
+-- "codes 0 to 8: 0 1 Z X H U W L -", in ASCII; the codes of 1 and of 2 bits are the first of these
+abbrev pub symbols : List ℕ
+symbols = 0x30 ∷ 0x31 ∷ 0x5A ∷ 0x58 ∷ 0x48 ∷ 0x55 ∷ 0x57 ∷ 0x4C ∷ 0x2D ∷ []
+
+unfoldable pub symbolOf : ℕ → ℕ
+symbolOf code = getD symbols code 0
+
+-- "Bits are written as ASCII symbols, one byte each". Under the commands 3 to B "all" are the symbol of the code that is 3 less.
+unfoldable pub symbolsAt : List ℕ → ℕ → ℕ → List ℕ
+symbolsAt s width o =
+    if eqb (symbolSize (commandOf s o)) 0 then replicate width (symbolOf (commandOf s o - 3))
+    else map symbolOf (codesAt s (symbolSize (commandOf s o)) width (dataAt s o))
+
+-- "a text is answered as the start and length of its part of the file, without the zero"
+unfoldable pub contentBy : List ℕ → Kind → ℕ → ℕ → Content
+contentBy s Bits width o = bits (symbolsAt s width o)
+contentBy s Integer width o = bits (symbolsAt s width o)
+contentBy s Real width o = real (realOf (realBits s (dataAt s o))) (realBits s (dataAt s o))
+contentBy s Text width o = text (dataAt s o) (toZero (slice (dataAt s o) (endOf s) s))
+
+-- the value of the change at o of the root f
+unfoldable pub contentOf : List ℕ → ℕ → ℕ → Content
+contentOf s f o = contentBy s (ownFacts s f .kind) (ownFacts s f .width) o
+
+-- "At a time t .., the value is that of the change of highest offset with time ≤ t": that offset among the offsets os, or 0 where there is none
+unfoldable pub latestAt : List ℕ → ℕ → List ℕ → ℕ
+latestAt s t [] = 0
+latestAt s t (o ∷ os) = if leb (timeOf s o) t then max o (latestAt s t os) else latestAt s t os
+
+unfoldable pub changeAt : List ℕ → ℕ → ℕ → ℕ
+changeAt s f t = latestAt s t (chainOf s (syncOf s f))
+
+-- "Where there is none, bits and integers show the initial symbol at every place, and reals and texts answer "not driven"."
+unfoldable pub initialBy : List ℕ → Kind → ℕ → Content
+initialBy s Bits width = bits (replicate width (symbolOf (initialOf s)))
+initialBy s Integer width = bits (replicate width (symbolOf (initialOf s)))
+initialBy s Real width = notDriven
+initialBy s Text width = notDriven
+
+-- the value of the root f at the time t
+unfoldable pub contentAt : List ℕ → ℕ → ℕ → Content
+contentAt s f t =
+    if eqb (changeAt s f t) 0 then initialBy s (ownFacts s f .kind) (ownFacts s f .width)
+    else contentOf s f (changeAt s f t)

@@ -1,0 +1,180 @@
+// The types of the reader's answers and the limits of the format. Every rule of the format is a
+// definition in specs/; nothing here computes more than a bound.
+ghost use mathlib.Core.Path.{_≡_};
+ghost use mathlib.Core.Bool.{_&&_};
+ghost use Prim.Native.Nat.{_-_, _≤_};
+ghost use lib.Dec.{leb};
+ghost use Rattle.lxt_format.specs.Limits.{shortestFile, longestFile, mostFacilities, longestName, widestFacility};
+
+// A file, by its length in bytes.
+pub struct File {
+    pub length: usize,
+}
+
+impl File {
+    pub const SHORTEST: usize = 6;
+
+    pub const LONGEST: usize = 16_777_216;
+
+    // Check 1.
+    pub fn length_is_allowed(self) -> bool
+        ensures { λ r. ⌜ r ≡ (leb shortestFile (self .length) && leb (self .length) longestFile) ⌝ }
+    {
+        (File::SHORTEST <= self.length) & (self.length <= File::LONGEST)
+    }
+}
+
+// A place in the section list: the offset of the next tag. The list is read towards the front.
+pub struct SectionCursor {
+    pub at: usize,
+}
+
+impl SectionCursor {
+    // The bytes of an item: a tag and the 4-byte value before it.
+    pub const ITEM: usize = 5;
+    // The lowest offset of a tag or a value, and of a section's body.
+    pub const FIRST: usize = 4;
+
+    // At the byte before the last one.
+    pub fn fresh(length: usize) -> SectionCursor
+        ensures { λ r. ⌜ r .at ≡ length - 2 ⌝ }
+    {
+        if length < 2 {
+            SectionCursor { at: 0 }
+        } else {
+            SectionCursor { at: length - 2 }
+        }
+    }
+}
+
+// A place in the name table: the offset of the next name's prefix bytes, the length of the name
+// before it, and how much of the memory M is left.
+pub struct NameCursor {
+    pub at: usize,
+    pub before: usize,
+    pub memory: usize,
+}
+
+impl NameCursor {
+    // The longest name, and so the room that a names buffer needs.
+    pub const LONGEST: usize = 1_023;
+
+    // Before the first name: the name before it is empty.
+    pub fn fresh(at: usize, memory: usize) -> NameCursor
+        ensures { λ r. ⌜ r ≡ record { at = at; before = 0; memory = memory } ⌝ }
+    {
+        NameCursor {
+            at,
+            before: 0,
+            memory,
+        }
+    }
+
+    pub fn length_is_allowed(length: usize) -> bool
+        ensures { λ r. ⌜ r ≡ leb length longestName ⌝ }
+    {
+        length <= NameCursor::LONGEST
+    }
+}
+
+// What a facility's values are.
+pub enum Kind {
+    Bits,
+    Integer,
+    Real,
+    Text,
+}
+
+// The facts of a facility. Integers have 32, 31 and 0; reals and texts 0, 0 and 0.
+pub struct Facts {
+    pub width: u32,
+    pub msb: i32,
+    pub lsb: i32,
+    pub kind: Kind,
+}
+
+impl Facts {
+    pub const WIDEST: u64 = 4_096;
+
+    pub fn width_is_allowed(width: u64) -> bool
+        ensures { λ r. ⌜ r ≡ leb width widestFacility ⌝ }
+    {
+        width <= Facts::WIDEST
+    }
+}
+
+// What judging an accepted file answers.
+pub struct Summary {
+    // n
+    pub facilities: u32,
+    // C
+    pub changes: u32,
+    // T
+    pub end: u32,
+    pub timescale: i8,
+    // the code of the initial symbol, 0 to 8
+    pub initial: u8,
+}
+
+impl Summary {
+    pub const MOST_FACILITIES: u32 = 4_096;
+
+    pub fn count_is_allowed(facilities: u32) -> bool
+        ensures { λ r. ⌜ r ≡ leb facilities mostFacilities ⌝ }
+    {
+        facilities <= Summary::MOST_FACILITIES
+    }
+}
+
+pub enum Judgement {
+    Accepted(Summary),
+    Refused(u8),
+}
+
+pub enum FactsAnswer {
+    Known(Facts),
+    Refused(u8),
+}
+
+// A facility's root, a name's length, or the change before a change (0 where there is none).
+pub enum NumberAnswer {
+    Number(u32),
+    Refused(u8),
+}
+
+// A value, the answer to "the value at a time".
+pub enum Value {
+    // The symbols stand in the lent buffer.
+    Bits { width: u32 },
+    // The number, and the 64 bits that it was made from: a NaN's bits are lost in the number.
+    Real { number: f64, bits: u64 },
+    // A part of the file, without the zero.
+    Text { start: u32, length: u32 },
+    NotDriven,
+    Refused(u8),
+}
+
+// A change's time and value; the time is 0 where the value says "refused".
+pub struct TimedValue {
+    pub time: u32,
+    pub value: Value,
+}
+
+// A facility's number and an offset: a pair of the walk record, whose offset is the pending one, or
+// a pair that a walk hands out.
+pub struct Pair {
+    pub number: u32,
+    pub offset: u32,
+}
+
+// Starting a walk.
+pub enum StartAnswer {
+    Started,
+    Refused(u8),
+}
+
+// Carrying on: how many pairs were handed out, and whether all pending offsets are 0.
+pub enum CarryAnswer {
+    Handed { count: u32, done: bool },
+    Refused(u8),
+}
