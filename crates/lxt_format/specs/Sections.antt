@@ -104,10 +104,11 @@ bodySize s tag =
     else 1
 
 -- 8: "one of 02 to 07 that is present starts below 4, or its body passes T, or C is outside 4 to T"
+unfoldable pub bodyInside : List ℕ → ℕ → Bool
+bodyInside s tag = not (present s tag) || inside (endOf s) (sectionOf s tag) (bodySize s tag)
+
 unfoldable pub bodiesInside : List ℕ → Bool
-bodiesInside s =
-    all (λ tag. not (present s tag) || inside (endOf s) (sectionOf s tag) (bodySize s tag)) (range 0x02 6)
-    && inside (endOf s) (changesFrom s) 0
+bodiesInside s = all (bodyInside s) (range 0x02 6) && inside (endOf s) (changesFrom s) 0
 
 -- 9: "n above 4,096"
 unfoldable pub countAllowed : ℕ → Bool
