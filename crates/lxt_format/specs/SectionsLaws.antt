@@ -33,9 +33,16 @@ list-same (suc j) (suc k) s p met a b =
 unfoldable pub listAt : List ℕ → ℕ → List Item → Listing
 listAt s p met = listFrom (suc p) s p met
 
-pub listing-at : (s : List ℕ) → 2 ≤ length s → listingOf s ≡ listAt s (length s - 2) []
+pub listing-at : (s : List ℕ) → listingOf s ≡ listAt s (length s - 2) []
 unfolding listingOf listAt
-listing-at s h = list-same (length s) (suc (length s - 2)) s (length s - 2) [] (omega arith) (omega arith)
+listing-at s =
+    elim (decLe 1 (length s)) [
+      | yes h ↦ list-same (length s) (suc (length s - 2)) s (length s - 2) [] (omega arith) (omega arith)
+      | no n ↦ (let e : length s ≡ 0 = omega arith in rw e (none s))
+    ]
+  where
+    none : (s : List ℕ) → listFrom 0 s (0 - 2) [] ≡ listFrom (suc (0 - 2)) s (0 - 2) []
+    none s = unfold listFrom in refl
 
 module _ (s : List ℕ) (p : ℕ) (met : List Item) where
   -- a tag below offset 4
