@@ -1,0 +1,19 @@
+// The tables of a trace: names, geometry, aliases, times and the real test: refusals 10 to 14.
+
+// What refusals 1 to 14 pass: n, m, C, T, where each table starts, the timescale, the initial symbol
+// and the byte order of reals (all 0 where there is no real facility); or the refusal's number, and
+// all else 0.
+pub struct Tables {
+    pub refusal: u8,
+    pub facilities: u32,
+    pub time_count: u32,
+    pub end: usize,
+    pub changes: u32,
+    pub sync: u32,
+    pub names: u32,
+    pub geometry: u32,
+    pub times: u32,
+    pub timescale: i8,
+    pub initial: u8,
+    pub order: [u8; 8],
+}
