@@ -4,3 +4,8 @@ pub mod Sorted
 pub mod Step
 pub mod Handed
 pub mod Bridge
+pub mod Check17
+pub mod Accepted
+pub mod Wider
+pub mod Roots
+pub mod Full

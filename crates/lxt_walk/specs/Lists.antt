@@ -1,14 +1,15 @@
 -- Laws of lists that the walk needs: a property of each element, and takes and drops past the end.
-use Prim.Native.Nat.{ℕ, zero, suc, min}
+use Prim.Native.Nat.{ℕ, zero, suc, _+_, _≤_, _<_, min}
+use native.Mathlib.Omega.{arith}
 use native.Mathlib.Nat.{min-zero, zero-min, suc-min-suc}
 use mathlib.Core.Path.{_≡_, refl, sym, ap, _∙_}
-use mathlib.Core.Bool.{Bool, true, false}
+use mathlib.Core.Bool.{Bool, true, false, false≢true}
 use mathlib.Core.List.{List, [], _∷_, _++_, map}
 use lib.ListN.{length, take, drop}
 use lib.Dec.{eqb}
 use borrow.Author.Tests.{eqb-true, eqb-false, eq-eqb, ne-eqb}
-use Rattle.lxt_format.specs.Basics.{select, all, firstFault}
-use Rattle.lxt_format.specs.BasicsLaws.{on-test, and-both, both-and, neither}
+use Rattle.lxt_format.specs.Basics.{range, all, any, select, joined, firstFault}
+use Rattle.lxt_format.specs.BasicsLaws.{on-test, and-both, both-and, or-either, neither}
 
 -- P holds of each element of a list
 pub data Each {A : Type 0} (P : A → Type 0) : List A → Type 0 where
@@ -34,6 +35,21 @@ module _ {A : Type 0} where
   each-select q Each.none = Each.none
   each-select q (Each.both {x = x} h t) =
       let rest = each-select q t in on-test (q x) (λ e. rw e (Each.both h rest)) (λ e. rw e rest)
+
+  pub each-both : {P Q : A → Type 0} {l : List A} → Each P l → Each Q l → Each (λ x. P x × Q x) l
+  each-both Each.none Each.none = Each.none
+  each-both (Each.both h t) (Each.both k u) = Each.both (h, k) (each-both t u)
+
+  -- what a selection tests holds of each that it keeps
+  pub each-selected : (q : A → Bool) (l : List A) → Each (λ x. q x ≡ true) (select q l)
+  unfolding select
+  each-selected q [] = Each.none
+  each-selected q (x ∷ l) = let rest = each-selected q l in on-test (q x) (λ e. rw e (Each.both e rest)) (λ e. rw e rest)
+
+  pub select-append : (q : A → Bool) (l m : List A) → select q (l ++ m) ≡ select q l ++ select q m
+  unfolding select
+  select-append q [] m = refl
+  select-append q (x ∷ l) m = let rest = select-append q l m in on-test (q x) (λ e. rw (e, rest)) (λ e. rw (e, rest))
 
   -- a test that holds of each, and back
   pub each-all : (q : A → Bool) (l : List A) → all q l ≡ true → Each (λ x. q x ≡ true) l
@@ -67,6 +83,25 @@ module _ {A : Type 0} where
   drop-min zero l = rw zero-min
   drop-min (suc n) [] = rw min-zero
   drop-min (suc n) (x ∷ l) = rw suc-min-suc (drop-min n l)
+
+pub each-joined : {A B : Type 0} {P : B → Type 0} (f : A → List B) {l : List A} → Each (λ x. Each P (f x)) l → Each P (joined f l)
+unfolding joined
+each-joined f Each.none = Each.none
+each-joined f (Each.both h t) = each-append h (each-joined f t)
+
+-- what holds of each number from i up to i + k holds of each of the range
+pub each-range : {P : ℕ → Type 0} (i k : ℕ) → ((j : ℕ) → i ≤ j → j < i + k → P j) → Each P (range i k)
+unfolding range
+each-range i zero h = Each.none
+each-range i (suc k) h = Each.both (h i (omega arith) (omega arith)) (each-range (suc i) k (λ j a b. h j (omega arith) (omega arith)))
+
+-- a test that holds of some number of a range
+pub any-range : {P : Type 0} (p : ℕ → Bool) (i k : ℕ) → any p (range i k) ≡ true → ((j : ℕ) → i ≤ j → j < i + k → p j ≡ true → P) → P
+unfolding any range
+any-range p i zero h found = absurd (false≢true h)
+any-range {P} p i (suc k) h found =
+    let rest : any p (range (suc i) k) ≡ true → P = λ e. any-range p (suc i) k e (λ j a b q. found j (omega arith) (omega arith) q) in
+    or-either (p i) (any p (range (suc i) k)) h (λ e. found i (omega arith) (omega arith) e) rest
 
 -- two tests of equality that follow from each other
 pub eqb-same : (a b c d : ℕ) → (a ≡ b → c ≡ d) → (c ≡ d → a ≡ b) → eqb a b ≡ eqb c d
