@@ -7,10 +7,11 @@ use mathlib.Core.Bool.{true, false, not}
 use mathlib.Core.List.{List}
 use lib.Dec.{lit<}
 use borrow.Author.Tests.{not-true}
-use Rattle.lxt_format.specs.Basics.{range, firstFault}
+use Rattle.lxt_format.specs.Basics.{_unless_, range, firstFault}
 use Rattle.lxt_format.specs.BasicsLaws.{on-zero, neither, kept}
-use Rattle.lxt_format.specs.Sections.{facilityCount, changesFrom, endOf}
-use Rattle.lxt_format.specs.Geometry.{isAlias, rootsOf, ownFacts, syncOf}
+use Rattle.lxt_format.specs.Sections.{lengthAllowed, startsRight, endsRight, listingOf, nothingCompressed, present, sectionsPresent, bodiesInside, countAllowed, facilityCount, changesFrom, endOf}
+use Rattle.lxt_format.specs.Names.{namesAllowed}
+use Rattle.lxt_format.specs.Geometry.{geometriesAllowed, aliasesAllowed, isAlias, rootsOf, ownFacts, syncOf}
 use Rattle.lxt_format.specs.Changes.{previousOf, chainFault, faultAt}
 use Rattle.lxt_format.specs.ChangesLaws.{previous-lt, chain-more, Sound, sound, end-after}
 use Rattle.lxt_format.specs.Judge.{tablesRefusal, faultFrom, chainsRefusal, changesOf, allChanges, endAt, changesApart, fileRefusal}
@@ -34,6 +35,24 @@ accepted s h =
     let a = neither _ _ h in
     let b = neither _ _ (a .1) in
     record { tables = a .0; chains = b .0; apart = kept 17 _ (lit< tt) (b .1) }
+
+-- check 12 of such a file: every alias has a root
+pub aliases-allowed : (s : List ℕ) → tablesRefusal s ≡ 0 → aliasesAllowed s ≡ true
+unfolding tablesRefusal
+aliases-allowed s h =
+    let c1 = neither (1 unless lengthAllowed s) _ h in
+    let c2 = neither (2 unless startsRight s) _ (c1 .1) in
+    let c3 = neither (3 unless endsRight s) _ (c2 .1) in
+    let c4 = neither (4 unless (listingOf s .listed)) _ (c3 .1) in
+    let c5 = neither (5 unless nothingCompressed s) _ (c4 .1) in
+    let c6 = neither (6 unless not (present s 0x09)) _ (c5 .1) in
+    let c7 = neither (7 unless sectionsPresent s) _ (c6 .1) in
+    let c8 = neither (8 unless bodiesInside s) _ (c7 .1) in
+    let c9 = neither (9 unless countAllowed (facilityCount s)) _ (c8 .1) in
+    let c10 = neither (10 unless namesAllowed s) _ (c9 .1) in
+    let c11 = neither (11 unless geometriesAllowed s) _ (c10 .1) in
+    let c12 = neither (12 unless aliasesAllowed s) _ (c11 .1) in
+    kept 12 _ (lit< tt) (c12 .0)
 
 -- a change of a root from which the chain downwards breaks no rule of 15 or 16
 pub record Allowed (s : List ℕ) (p : Pair) : Type 0 where

@@ -9,3 +9,7 @@ pub mod Accepted
 pub mod Wider
 pub mod Roots
 pub mod Full
+pub mod Calls
+pub mod Record
+pub mod Demand
+pub mod Examples
