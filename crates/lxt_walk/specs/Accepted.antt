@@ -29,6 +29,7 @@ pub record Accepted (s : List ℕ) : Type 0 where
   pub chains : chainsRefusal s ≡ 0
   pub apart : changesApart s ≡ true
 
+-- a file that is not refused passes them all
 pub accepted : (s : List ℕ) → fileRefusal s ≡ 0 → Accepted s
 unfolding fileRefusal
 accepted s h =
@@ -67,7 +68,7 @@ module _ (s : List ℕ) where
   unfolding faultFrom chainFault firstFault
   chain-parts f o p h = neither _ _ (rw (chain-more s o p) at h)
 
-  -- so each of its changes is allowed
+  -- so each of its changes is allowed, k bounding their offsets
   chain-within : (k f o : ℕ) → o ≤ k → isAlias s f ≡ false → faultFrom s f o ≡ 0 → Each (Allowed s) (chainPairs s f o)
   chain-within zero f o b a h = let e : o ≡ 0 = omega arith in rw (e, changes-none s f) Each.none
   chain-within (suc k) f o b a h =
@@ -76,6 +77,7 @@ module _ (s : List ℕ) where
       on-zero o (λ e. rw (e, changes-none s f) Each.none)
       (λ p. rw (changes-more s f o p) (Each.both (record { root = a; change = p; chain = h }) (rest p)))
 
+  -- each change of a root's chain without a fault is allowed
   pub chain-allowed : (f o : ℕ) → isAlias s f ≡ false → faultFrom s f o ≡ 0 → Each (Allowed s) (chainPairs s f o)
   chain-allowed f o a h = chain-within o f o (le-refl o) a h
 
@@ -87,11 +89,12 @@ module _ (s : List ℕ) where
       (each-map (λ f k. chain-allowed f (syncOf s f) (not-true _ (k .0)) (k .1))
       (each-both (each-selected (λ f. not (isAlias s f)) (range 0 (facilityCount s))) (faultless (λ f. faultFrom s f (syncOf s f)) (rootsOf s) h)))
 
-  -- an allowed change keeps all rules of 15 and 16, and ends at or below T
+  -- an allowed change keeps all rules of 15 and 16
   pub allowed-sound : {p : Pair} → Allowed s p
       → Sound s (changesFrom s) (endOf s) (ownFacts s (p .number) .kind) (ownFacts s (p .number) .width) (p .offset)
   allowed-sound {p} a = sound _ _ _ _ _ _ (chain-parts (p .number) (p .offset) (a .change) (a .chain) .0)
 
+  -- so it ends above its start and at or below T
   pub allowed-fits : {p : Pair} → Allowed s p → Fits (endAt s) (endOf s) p
   unfolding endAt
   allowed-fits {p} a =

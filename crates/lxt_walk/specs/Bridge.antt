@@ -39,16 +39,19 @@ module _ (s : List ℕ) where
   unfolding fullList startOffsets
   full-start asked = rw (chosen (asks s asked) 0 (facilityCount s))
 
+  -- a start has a pending offset for each facility
   pub length-start : (asked : List ℕ) → length (startOffsets s asked) ≡ facilityCount s
   unfolding startOffsets
   length-start asked = rw (length-map, length-range)
 
+  -- the sync entry where the facility is asked for, and else 0
   pub getD-start : (asked : List ℕ) (f : ℕ) → f < facilityCount s → getD (startOffsets s asked) f 0 ≡ (if asks s asked f then syncOf s f else 0)
   unfolding startOffsets
   getD-start asked f h = getD-over _ 0 (facilityCount s) f h ∙ rw zero-add
 
   -- ---- all roots
 
+  -- to take the sync entry of what is no alias is to take 0 of an alias
   each-root : (i k : ℕ) → map (λ f. if not (isAlias s f) then syncOf s f else 0) (range i k) ≡ map (λ f. if isAlias s f then 0 else syncOf s f) (range i k)
   unfolding range
   each-root i zero = refl
@@ -59,10 +62,12 @@ module _ (s : List ℕ) where
   unfolding allChanges rootsOf rootOffsets
   all-roots = chosen (λ f. not (isAlias s f)) 0 (facilityCount s) ∙ ap (pendingChanges s 0) (each-root 0 (facilityCount s))
 
+  -- there is one for each facility
   pub length-roots : length (rootOffsets s) ≡ facilityCount s
   unfolding rootOffsets
   length-roots = rw (length-map, length-range)
 
+  -- the sync entry of a root, and 0 of an alias
   pub getD-roots : (f : ℕ) → f < facilityCount s → getD (rootOffsets s) f 0 ≡ (if isAlias s f then 0 else syncOf s f)
   unfolding rootOffsets
   getD-roots f h = getD-over _ 0 (facilityCount s) f h ∙ rw zero-add

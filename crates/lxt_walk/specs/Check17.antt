@@ -3,7 +3,7 @@
 use Prim.Native.Nat.{ℕ, suc, _≤_, _<_}
 use native.Mathlib.Omega.{arith}
 use mathlib.Core.Path.{_≡_, refl, sym, _∙_}
-use mathlib.Core.Bool.{Bool, true, false, _&&_, _||_, true≢false}
+use mathlib.Core.Bool.{Bool, true, false, _&&_, or-comm, true≢false}
 use mathlib.Core.List.{List, [], _∷_}
 use lib.Dec.{leb}
 use borrow.Author.Tests.{leb-true, le-leb, lt-leb}
@@ -29,6 +29,7 @@ pub record Fits (end : Pair → ℕ) (T : ℕ) (p : Pair) : Type 0 where
 
 -- ---- a test of any two is the same in any order
 
+-- four tests in another order
 and-swap : (a b c d : Bool) → ((a && b) && (c && d)) ≡ ((a && c) && (b && d))
 and-swap false b c d = refl
 and-swap true true c d = refl
@@ -36,6 +37,7 @@ and-swap true false true d = refl
 and-swap true false false d = refl
 
 module _ (q : Pair → Bool) where
+  -- a test of each pair
   all-insert : (p : Pair) (l : List Pair) → all q (insert p l) ≡ (q p && all q l)
   unfolding all insert
   all-insert p [] = refl
@@ -48,12 +50,14 @@ module _ (q : Pair → Bool) where
       and-left false true c = refl
       and-left false false c = refl
 
+  -- the same of a sorted list
   all-sort : (l : List Pair) → all q (sort l) ≡ all q l
   unfolding all sort
   all-sort [] = refl
   all-sort (p ∷ l) = rw (all-insert p (sort l), all-sort l)
 
 module _ (r : Pair → Pair → Bool) (either : (p q : Pair) → r p q ≡ r q p) where
+  -- a test of any two pairs that does not ask which comes first
   pairwise-insert : (p : Pair) (l : List Pair) → pairwise r (insert p l) ≡ (all (r p) l && pairwise r l)
   unfolding pairwise all insert
   pairwise-insert p [] = refl
@@ -62,6 +66,7 @@ module _ (r : Pair → Pair → Bool) (either : (p q : Pair) → r p q ≡ r q p
       on-test (leb (x .offset) (p .offset)) (λ e. rw e)
       (λ e. rw (e, all-insert (r x) p l, ih, either x p) (and-swap (r p x) (all (r x) l) (all (r p) l) (pairwise r l)))
 
+  -- the same of a sorted list
   pub pairwise-sort : (l : List Pair) → pairwise r (sort l) ≡ pairwise r l
   unfolding pairwise sort
   pairwise-sort [] = refl
@@ -70,15 +75,10 @@ module _ (r : Pair → Pair → Bool) (either : (p q : Pair) → r p q ≡ r q p
 -- ---- check 17
 
 module _ (end : Pair → ℕ) where
+  -- which of two changes comes first does not matter
   apart-either : (p q : Pair) → apart end p q ≡ apart end q p
   unfolding apart
   apart-either p q = or-comm (leb (end p) (q .offset)) (leb (end q) (p .offset))
-    where
-      or-comm : (a b : Bool) → (a || b) ≡ (b || a)
-      or-comm true true = refl
-      or-comm true false = refl
-      or-comm false true = refl
-      or-comm false false = refl
 
   -- a change is apart from one that is not above it exactly where that one ends at or below its start
   apart-under : {l : List Pair} (p : Pair) → p .offset < end p → Below (suc (p .offset)) l
@@ -96,6 +96,7 @@ module _ (end : Pair → ℕ) where
       let here : end p ≤ bound = leb-true _ _ (b .0) in
       Each.both here (each-map (λ q k. omega arith) (stacked-upto t (b .1)))
 
+  -- of a sorted list, any two changes are apart exactly where neighbours are
   sorted-stacked : {T : ℕ} {l : List Pair} → Sorted l → Each (Fits end T) l → pairwise (apart end) l ≡ stacked end T l
   unfolding pairwise stacked
   sorted-stacked Sorted.none Each.none = refl
@@ -119,10 +120,12 @@ module _ (end : Pair → ℕ) where
 -- ---- going down the sorted changes of pending offsets: nothing left, or the highest and then a step
 
 module _ (end : Pair → ℕ) (s : List ℕ) (bound : ℕ) (os : List ℕ) where
+  -- where nothing is pending, nothing is left to test
   pub stacked-quiet : high os ≡ 0 → stacked end bound (sort (pendingChanges s 0 os)) ≡ true
   unfolding stacked
   stacked-quiet h = rw (sorted-quiet s os h)
 
+  -- else the highest must end at or below the bound, and the rest is stacked below its start
   pub stacked-step : 0 < high os
       → stacked end bound (sort (pendingChanges s 0 os))
       ≡ (leb (end (pairOf (top os) (high os))) bound && stacked end (high os) (sort (pendingChanges s 0 (step s os))))

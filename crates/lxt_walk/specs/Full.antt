@@ -27,6 +27,7 @@ pub data Falling : List Pair → Type 0 where
   none : Falling []
   more : {p : Pair} {l : List Pair} → Below (p .offset) l → Falling l → Falling (p ∷ l)
 
+-- an offset of a list whose offsets are below b
 below-at : {b : ℕ} {l : List Pair} (d : Pair) → Below b l → (i : ℕ) → i < length l → getD l i d .offset < b
 below-at d Below.none i h = absurd (omega arith)
 below-at d (Below.both k t) zero h = k
@@ -39,6 +40,7 @@ falling-at d (Falling.more b t) i zero h k = absurd (omega arith)
 falling-at d (Falling.more b t) zero (suc j) h k = below-at d b j (omega arith)
 falling-at d (Falling.more b t) (suc i) (suc j) h k = falling-at d t i j (omega arith) (omega arith)
 
+-- to leave pairs out keeps the others falling
 falling-pairs : (c : ℕ → Bool) {l : List Pair} → Falling l → Falling (pairsOf c l)
 unfolding select
 falling-pairs c Falling.none = Falling.none
@@ -47,6 +49,7 @@ falling-pairs c (Falling.more {p = p} b t) =
 
 -- a stack falls
 module _ (end : Pair → ℕ) where
+  -- a stack lies below its bound
   stacked-below : {T bound : ℕ} {l : List Pair} → Each (Fits end T) l → stacked end bound l ≡ true → Below bound l
   unfolding stacked
   stacked-below Each.none h = Below.none
@@ -55,6 +58,7 @@ module _ (end : Pair → ℕ) where
       let here : end p ≤ bound = leb-true _ _ (b .0) in
       Below.both {p = p} (omega arith) (below-weaken (omega arith) (stacked-below t (b .1)))
 
+  -- and falls
   pub stacked-falling : {T : ℕ} {l : List Pair} (bound : ℕ) → Each (Fits end T) l → stacked end bound l ≡ true → Falling l
   unfolding stacked
   stacked-falling bound Each.none h = Falling.none
@@ -74,6 +78,7 @@ module _ (s asked : List ℕ) where
   pub full-asked : Each (λ p. asks s asked (p .number) ≡ true) (fullList s asked)
   full-asked = rw full-among at (each-selected (λ p. asks s asked (p .number)) (sort (allChanges s)))
 
+  -- where 15 and 16 are not given, each of them is allowed
   pub full-allowed : chainsRefusal s ≡ 0 → Each (Allowed s) (fullList s asked)
   full-allowed h = rw full-among at (each-select (λ p. asks s asked (p .number)) (each-sort (all-allowed s h)))
 

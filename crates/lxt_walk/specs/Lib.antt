@@ -1,4 +1,5 @@
 pub mod Pending
+pub mod Calls
 pub mod Lists
 pub mod Sorted
 pub mod Step
@@ -9,7 +10,7 @@ pub mod Accepted
 pub mod Wider
 pub mod Roots
 pub mod Full
-pub mod Calls
 pub mod Record
+pub mod Telling
 pub mod Demand
 pub mod Examples

@@ -3,7 +3,7 @@ use Prim.Native.Nat.{ℕ, zero, suc, _+_, _≤_, _<_, min}
 use native.Mathlib.Omega.{arith}
 use native.Mathlib.Nat.{min-zero, zero-min, suc-min-suc}
 use mathlib.Core.Path.{_≡_, refl, sym, ap, _∙_}
-use mathlib.Core.Bool.{Bool, true, false, false≢true}
+use mathlib.Core.Bool.{Bool, true, false≢true}
 use mathlib.Core.List.{List, [], _∷_, _++_, map}
 use lib.ListN.{length, take, drop}
 use lib.Dec.{eqb}
@@ -17,25 +17,30 @@ pub data Each {A : Type 0} (P : A → Type 0) : List A → Type 0 where
   both : {x : A} {l : List A} → P x → Each P l → Each P (x ∷ l)
 
 module _ {A : Type 0} where
+  -- what follows from a property of each holds of each
   pub each-map : {P Q : A → Type 0} {l : List A} → ((x : A) → P x → Q x) → Each P l → Each Q l
   each-map f Each.none = Each.none
   each-map f (Each.both {x = x} h t) = Each.both (f x h) (each-map f t)
 
+  -- of two lists laid one after the other
   pub each-append : {P : A → Type 0} {l m : List A} → Each P l → Each P m → Each P (l ++ m)
   each-append Each.none k = k
   each-append (Each.both h t) k = Each.both h (each-append t k)
 
+  -- of what is left of a list
   pub each-drop : {P : A → Type 0} (n : ℕ) {l : List A} → Each P l → Each P (drop n l)
   each-drop zero a = a
   each-drop (suc n) Each.none = Each.none
   each-drop (suc n) (Each.both h t) = each-drop n t
 
+  -- of those of which a test holds
   pub each-select : {P : A → Type 0} (q : A → Bool) {l : List A} → Each P l → Each P (select q l)
   unfolding select
   each-select q Each.none = Each.none
   each-select q (Each.both {x = x} h t) =
       let rest = each-select q t in on-test (q x) (λ e. rw e (Each.both h rest)) (λ e. rw e rest)
 
+  -- two properties of each
   pub each-both : {P Q : A → Type 0} {l : List A} → Each P l → Each Q l → Each (λ x. P x × Q x) l
   each-both Each.none Each.none = Each.none
   each-both (Each.both h t) (Each.both k u) = Each.both (h, k) (each-both t u)
@@ -46,17 +51,19 @@ module _ {A : Type 0} where
   each-selected q [] = Each.none
   each-selected q (x ∷ l) = let rest = each-selected q l in on-test (q x) (λ e. rw e (Each.both e rest)) (λ e. rw e rest)
 
+  -- a selection of two lists laid one after the other
   pub select-append : (q : A → Bool) (l m : List A) → select q (l ++ m) ≡ select q l ++ select q m
   unfolding select
   select-append q [] m = refl
   select-append q (x ∷ l) m = let rest = select-append q l m in on-test (q x) (λ e. rw (e, rest)) (λ e. rw (e, rest))
 
-  -- a test that holds of each, and back
+  -- a test that holds of all holds of each
   pub each-all : (q : A → Bool) (l : List A) → all q l ≡ true → Each (λ x. q x ≡ true) l
   unfolding all
   each-all q [] h = Each.none
   each-all q (x ∷ l) h = let b = and-both (q x) (all q l) h in Each.both (b .0) (each-all q l (b .1))
 
+  -- and back
   pub all-each : (q : A → Bool) {l : List A} → Each (λ x. q x ≡ true) l → all q l ≡ true
   unfolding all
   all-each q Each.none = refl
@@ -74,16 +81,19 @@ module _ {A : Type 0} where
   faultless fault [] h = Each.none
   faultless fault (x ∷ l) h = let b = neither (fault x) (firstFault (map fault l)) h in Each.both (b .0) (faultless fault l (b .1))
 
+  -- to take more than there is is to take all
   pub take-min : (n : ℕ) (l : List A) → take n l ≡ take (min n (length l)) l
   take-min zero l = rw zero-min
   take-min (suc n) [] = rw min-zero
   take-min (suc n) (x ∷ l) = rw suc-min-suc (ap (λ m. x ∷ m) (take-min n l))
 
+  -- to drop more than there is is to drop all
   pub drop-min : (n : ℕ) (l : List A) → drop n l ≡ drop (min n (length l)) l
   drop-min zero l = rw zero-min
   drop-min (suc n) [] = rw min-zero
   drop-min (suc n) (x ∷ l) = rw suc-min-suc (drop-min n l)
 
+-- of lists laid one after the other
 pub each-joined : {A B : Type 0} {P : B → Type 0} (f : A → List B) {l : List A} → Each (λ x. Each P (f x)) l → Each P (joined f l)
 unfolding joined
 each-joined f Each.none = Each.none
@@ -107,9 +117,3 @@ any-range {P} p i (suc k) h found =
 pub eqb-same : (a b c d : ℕ) → (a ≡ b → c ≡ d) → (c ≡ d → a ≡ b) → eqb a b ≡ eqb c d
 eqb-same a b c d f g =
     on-test (eqb a b) (λ e. e ∙ sym (eq-eqb c d (f (eqb-true a b e)))) (λ e. e ∙ sym (ne-eqb c d (λ h. eqb-false a b e (g h))))
-
--- two tests that follow from each other
-pub test-same : (a b : Bool) → (a ≡ true → b ≡ true) → (b ≡ true → a ≡ true) → a ≡ b
-test-same true b f g = sym (f refl)
-test-same false true f g = g refl
-test-same false false f g = refl

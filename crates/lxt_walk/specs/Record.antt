@@ -1,5 +1,5 @@
 -- The walk record: its pairs, and check 20 of a record that a walk left.
-use Prim.Native.Nat.{ℕ, zero, suc, _+_, _-_, _≤_, _<_}
+use Prim.Native.Nat.{ℕ, zero, suc, _+_, _*_, _-_, _≤_, _<_}
 use native.Mathlib.Nat.{zero-add}
 use native.Mathlib.Omega.{arith}
 use mathlib.Core.Path.{_≡_, refl, sym, ap, _∙_}
@@ -11,20 +11,36 @@ use lib.Dec.{eqb}
 use borrow.Author.Tests.{eqb-true, eq-eqb, ne-eqb}
 use Rattle.lxt_format.specs.BasicsLaws.{on-test, on-zero, range-all}
 use Rattle.lxt_format.specs.Sections.{facilityCount}
-use Rattle.lxt_format.specs.Walk.{sort, numbered, withOffsets, offsetsOf, pairAllowed, recordAllowed}
+use Rattle.lxt_format.specs.Walk.{sort, numbered, withOffsets, offsetsOf, pairAllowed, recordAllowed, flat}
 use Rattle.lxt_format.specs.declared.Pair.{Pair}
 use Rattle.lxt_walk.specs.Pending.{pairOf, pendingChanges, firstOf}
 use Rattle.lxt_walk.specs.Lists.{Each}
 use Rattle.lxt_walk.specs.Handed.{pending-first}
 use Rattle.lxt_walk.specs.Accepted.{Allowed}
 
+-- ---- pairs in a buffer
+
+-- two numbers for each
+pub length-flat : (l : List Pair) → length (flat l) ≡ 2 * length l
+unfolding flat
+length-flat [] = refl
+length-flat (p ∷ l) = let ih = length-flat l in omega arith
+
+-- of two lists laid one after the other
+pub flat-append : (l m : List Pair) → flat (l ++ m) ≡ flat l ++ flat m
+unfolding flat
+flat-append [] m = refl
+flat-append (p ∷ l) m = ap (λ r. p .number ∷ (p .offset ∷ r)) (flat-append l m)
+
 -- ---- pairs by number
 
+-- as many pairs as offsets
 pub length-numbered : (i : ℕ) (os : List ℕ) → length (numbered i os) ≡ length os
 unfolding numbered
 length-numbered i [] = refl
 length-numbered i (o ∷ os) = ap suc (length-numbered (suc i) os)
 
+-- pair f has its number and its offset
 pub getD-numbered : (i : ℕ) (os : List ℕ) (f : ℕ) (d : Pair) → f < length os → getD (numbered i os) f d ≡ pairOf (i + f) (getD os f 0)
 unfolding numbered
 getD-numbered i [] f d h = absurd (omega arith)
@@ -32,6 +48,7 @@ getD-numbered i (o ∷ os) zero d h = let e : i ≡ i + 0 = omega arith in ap (�
 getD-numbered i (o ∷ os) (suc f) d h =
     let e : suc i + f ≡ i + suc f = omega arith in getD-numbered (suc i) os f d (omega arith) ∙ ap (λ n. pairOf n (getD os f 0)) e
 
+-- the offsets of the pairs are the given ones
 offsets-numbered : (i : ℕ) (os : List ℕ) → map (λ p. p .offset) (numbered i os) ≡ os
 unfolding numbered
 offsets-numbered i [] = refl
@@ -40,13 +57,14 @@ offsets-numbered i (o ∷ os) = ap (λ l. o ∷ l) (offsets-numbered (suc i) os)
 -- ---- a record with given pending offsets
 
 module _ (pairs : List Pair) (os : List ℕ) where
-  -- its first pairs hold them, and the others stay
+  -- pair f holds its number and the offset given for it
   pub with-here : (f : ℕ) (d : Pair) → f < length os → getD (withOffsets pairs os) f d ≡ pairOf f (getD os f 0)
   unfolding withOffsets
   with-here f d h =
       let k : f < length (numbered 0 os) = rw (length-numbered 0 os) h in
       List·getD-append (numbered 0 os) _ d f k ∙ getD-numbered 0 os f d h ∙ rw zero-add
 
+  -- "Pairs past n stay."
   pub with-past : (f : ℕ) (d : Pair) → length os ≤ f → getD (withOffsets pairs os) f d ≡ getD pairs f d
   unfolding withOffsets
   with-past f d h =
@@ -57,10 +75,12 @@ module _ (pairs : List Pair) (os : List ℕ) where
       ∙ getD-drop (length os) pairs (f - length os) d
       ∙ rw g
 
+  -- the record keeps its length
   pub length-with : length os ≤ length pairs → length (withOffsets pairs os) ≡ length pairs
   unfolding withOffsets
   length-with h = rw (length-append, length-numbered 0 os, length-drop) (omega arith)
 
+  -- its pending offsets are the given ones
   pub offsets-with : (n : ℕ) → length os ≡ n → offsetsOf n (withOffsets pairs os) ≡ os
   unfolding withOffsets offsetsOf
   offsets-with n h = rw (take-at (numbered 0 os) (drop (length os) pairs) n (length-numbered 0 os ∙ h)) (offsets-numbered 0 os)
@@ -88,10 +108,12 @@ first-none f (Each.both {x = p} h t) =
     let rest = first-none f t in on-test (eqb (p .number) f) (λ e. absurd (h (eqb-true _ _ e))) (λ e. rw (e, rest))
 
 module _ (s : List ℕ) where
+  -- check 20 of a pair whose pending offset is an allowed change
   pair-allowed : (f o : ℕ) → Allowed s (pairOf f o) → pairAllowed s f (pairOf f o) ≡ true
   unfolding pairAllowed
   pair-allowed f o a = rw (eq-eqb f f refl, ne-eqb o 0 (omega (arith, a .change)), a .root, a .chain)
 
+  -- and of a pair with no pending offset
   pair-quiet : (f : ℕ) → pairAllowed s f (pairOf f 0) ≡ true
   unfolding pairAllowed
   pair-quiet f = rw (eq-eqb f f refl)

@@ -24,18 +24,20 @@ abbrev pub pairsOf : (ℕ → Bool) → List Pair → List Pair
 pairsOf c l = select (λ p. c (p .number)) l
 
 module _ (c : ℕ → Bool) where
+  -- what is below a bound stays below it
   pub below-pairs : {b : ℕ} {l : List Pair} → Below b l → Below b (pairsOf c l)
   unfolding select
   below-pairs Below.none = Below.none
   below-pairs (Below.both {p = p} h t) =
       let rest = below-pairs t in on-test (c (p .number)) (λ e. rw e (Below.both h rest)) (λ e. rw e rest)
 
-  -- to insert a pair and then leave pairs out is to leave them out first
+  -- a pair that is left out may be put in or not
   insert-out : (p : Pair) (l : List Pair) → c (p .number) ≡ false → pairsOf c (insert p l) ≡ pairsOf c l
   unfolding select insert
   insert-out p [] h = rw h
   insert-out p (q ∷ l) h = let rest = insert-out p l h in on-test (leb (q .offset) (p .offset)) (λ e. rw (e, h)) (λ e. rw (e, rest))
 
+  -- a pair that stays may be put in before or after others are left out
   insert-in : (p : Pair) {l : List Pair} → c (p .number) ≡ true → Sorted l → pairsOf c (insert p l) ≡ insert p (pairsOf c l)
   unfolding select insert
   insert-in p h Sorted.none = rw h
@@ -45,6 +47,7 @@ module _ (c : ℕ → Bool) where
       (λ e. rw (e, h, insert-first p (below-pairs (Below.both {p = q} (suc-le-suc (leb-true _ _ e)) (below-weaken (suc-le-suc (leb-true _ _ e)) b)))))
       (λ e. on-test (c (q .number)) (λ k. rw (e, k, ih, insert-later p q (pairsOf c l) (leb-false _ _ e))) (λ k. rw (e, k, ih)))
 
+  -- to sort and then leave pairs out is to leave them out first
   pub pairs-sort : (l : List Pair) → pairsOf c (sort l) ≡ sort (pairsOf c l)
   unfolding sort select
   pairs-sort [] = refl
@@ -52,18 +55,20 @@ module _ (c : ℕ → Bool) where
       let ih = pairs-sort l in
       on-test (c (p .number)) (λ e. rw (e, insert-in p e (sort-sorted l), ih)) (λ e. rw (e, insert-out p (sort l) e, ih))
 
-  -- of one chain all pairs stay or none
+  -- of the chain of a facility that is kept all pairs stay
   chain-in : (f : ℕ) (os : List ℕ) → c f ≡ true → pairsOf c (map (λ o. pairOf f o) os) ≡ map (λ o. pairOf f o) os
   unfolding select
   chain-in f [] h = refl
   chain-in f (o ∷ os) h = rw (h, chain-in f os h)
 
+  -- of another none
   chain-out : (f : ℕ) (os : List ℕ) → c f ≡ false → pairsOf c (map (λ o. pairOf f o) os) ≡ []
   unfolding select
   chain-out f [] h = refl
   chain-out f (o ∷ os) h = rw (h, chain-out f os h)
 
   module _ (s : List ℕ) (d : ℕ → Bool) where
+    -- of the chains of some facilities, those of fewer
     chains-in : {fs : List ℕ} → Each (λ f. c f ≡ true → d f ≡ true) fs
         → pairsOf c (joined (changesOf s) (select d fs)) ≡ joined (changesOf s) (select c fs)
     unfolding joined select changesOf
