@@ -1,0 +1,91 @@
+-- The full list of an accepted file: its changes are allowed, of roots asked for, and no two offsets are equal.
+use Prim.Native.Nat.{ℕ, zero, suc, _≤_, _<_}
+use native.Mathlib.Omega.{arith}
+use mathlib.Core.Path.{_≡_, sym, _∙_}
+use mathlib.Core.Bool.{Bool, true, not}
+use mathlib.Core.List.{List, [], _∷_}
+use lib.ListN.{length, getD}
+use lib.Dec.{leb}
+use borrow.Author.Tests.{leb-true}
+use Rattle.lxt_format.specs.Basics.{select}
+use Rattle.lxt_format.specs.BasicsLaws.{on-test, and-both}
+use Rattle.lxt_format.specs.Sections.{facilityCount, endOf}
+use Rattle.lxt_format.specs.Geometry.{isAlias, rootsOf}
+use Rattle.lxt_format.specs.Judge.{chainsRefusal, allChanges, endAt, fileRefusal}
+use Rattle.lxt_format.specs.Walk.{asks, sort, fullList}
+use Rattle.lxt_format.specs.declared.Pair.{Pair}
+use Rattle.lxt_walk.specs.Lists.{Each, each-map, each-range, each-select, each-selected}
+use Rattle.lxt_walk.specs.Sorted.{Below, below-weaken, each-sort}
+use Rattle.lxt_walk.specs.Bridge.{all-roots}
+use Rattle.lxt_walk.specs.Check17.{Fits, stacked}
+use Rattle.lxt_walk.specs.Accepted.{accepted, Allowed, all-allowed, allowed-fits, apart-stacked}
+use Rattle.lxt_walk.specs.Roots.{asked-root}
+use Rattle.lxt_walk.specs.Wider.{pairsOf, below-pairs, pairs-chosen}
+
+-- by strictly falling offset
+pub data Falling : List Pair → Type 0 where
+  none : Falling []
+  more : {p : Pair} {l : List Pair} → Below (p .offset) l → Falling l → Falling (p ∷ l)
+
+-- an offset of a list whose offsets are below b
+below-at : {b : ℕ} {l : List Pair} (d : Pair) → Below b l → (i : ℕ) → i < length l → getD l i d .offset < b
+below-at d Below.none i h = absurd (omega arith)
+below-at d (Below.both k t) zero h = k
+below-at d (Below.both k t) (suc i) h = below-at d t i (omega arith)
+
+-- of two pairs of such a list the later has the lower offset
+pub falling-at : {l : List Pair} (d : Pair) → Falling l → (i j : ℕ) → i < j → j < length l → getD l j d .offset < getD l i d .offset
+falling-at d Falling.none i j h k = absurd (omega arith)
+falling-at d (Falling.more b t) i zero h k = absurd (omega arith)
+falling-at d (Falling.more b t) zero (suc j) h k = below-at d b j (omega arith)
+falling-at d (Falling.more b t) (suc i) (suc j) h k = falling-at d t i j (omega arith) (omega arith)
+
+-- to leave pairs out keeps the others falling
+falling-pairs : (c : ℕ → Bool) {l : List Pair} → Falling l → Falling (pairsOf c l)
+unfolding select
+falling-pairs c Falling.none = Falling.none
+falling-pairs c (Falling.more {p = p} b t) =
+    let rest = falling-pairs c t in on-test (c (p .number)) (λ e. rw e (Falling.more (below-pairs c b) rest)) (λ e. rw e rest)
+
+-- a stack falls
+module _ (end : Pair → ℕ) where
+  -- a stack lies below its bound
+  stacked-below : {T bound : ℕ} {l : List Pair} → Each (Fits end T) l → stacked end bound l ≡ true → Below bound l
+  unfolding stacked
+  stacked-below Each.none h = Below.none
+  stacked-below {T} {bound} (Each.both {x = p} {l = l} f t) h =
+      let b = and-both (leb (end p) bound) (stacked end (p .offset) l) h in
+      let here : end p ≤ bound = leb-true _ _ (b .0) in
+      Below.both {p = p} (omega arith) (below-weaken (omega arith) (stacked-below t (b .1)))
+
+  -- and falls
+  pub stacked-falling : {T : ℕ} {l : List Pair} (bound : ℕ) → Each (Fits end T) l → stacked end bound l ≡ true → Falling l
+  unfolding stacked
+  stacked-falling bound Each.none h = Falling.none
+  stacked-falling bound (Each.both {x = p} {l = l} f t) h =
+      let b = and-both (leb (end p) bound) (stacked end (p .offset) l) h in
+      Falling.more (stacked-below t (b .1)) (stacked-falling (p .offset) t (b .1))
+
+module _ (s asked : List ℕ) where
+  -- the full list is that of all changes of the file, without the pairs of roots that are not asked for
+  pub full-among : pairsOf (asks s asked) (sort (allChanges s)) ≡ fullList s asked
+  unfolding allChanges rootsOf fullList
+  full-among =
+      pairs-chosen (asks s asked) s (λ f. not (isAlias s f))
+      (each-range 0 (facilityCount s) (λ f a b e. let z = asked-root s asked f (omega arith) e in rw z))
+
+  -- each of its pairs is of a root asked for
+  pub full-asked : Each (λ p. asks s asked (p .number) ≡ true) (fullList s asked)
+  full-asked = rw full-among at (each-selected (λ p. asks s asked (p .number)) (sort (allChanges s)))
+
+  -- where 15 and 16 are not given, each of them is allowed
+  pub full-allowed : chainsRefusal s ≡ 0 → Each (Allowed s) (fullList s asked)
+  full-allowed h = rw full-among at (each-select (λ p. asks s asked (p .number)) (each-sort (all-allowed s h)))
+
+  -- "in an accepted file no two offsets are equal"
+  pub full-falling : fileRefusal s ≡ 0 → Falling (fullList s asked)
+  full-falling h =
+      let a = accepted s h in
+      let fits : Each (Fits (endAt s) (endOf s)) (sort (allChanges s)) = each-sort (each-map (λ p k. allowed-fits s k) (all-allowed s (a .chains))) in
+      let piled : stacked (endAt s) (endOf s) (sort (allChanges s)) ≡ true = rw (all-roots s) (sym (apart-stacked s (a .chains)) ∙ a .apart) in
+      rw full-among at (falling-pairs (asks s asked) (stacked-falling (endAt s) (endOf s) fits piled))

@@ -1,0 +1,16 @@
+pub mod Pending
+pub mod Calls
+pub mod Lists
+pub mod Sorted
+pub mod Step
+pub mod Handed
+pub mod Bridge
+pub mod Check17
+pub mod Accepted
+pub mod Wider
+pub mod Roots
+pub mod Full
+pub mod Record
+pub mod Telling
+pub mod Demand
+pub mod Examples
