@@ -1,0 +1,4 @@
+pub mod DeltaLaws
+pub mod SymbolLaws
+pub mod CodeLaws
+pub mod FaultLaws

@@ -1,0 +1,60 @@
+use borrow.Author.Tests.{not-true, not-false}
+use Rattle.lxt_changes.proofs.FaultLaws.{symbols-out, data-there, symbols-wrong, symbols-right}
+use borrow.Author.Needs.{needs}
+use Rattle.lxt_changes.proofs.fault.symbol_fault.Statement.{statement}
+use Rattle.lxt_changes.proofs.fault.symbol_fault.Tie as tie
+
+shared-slice-read-size-of : tie.Need-shared-slice-read-size-of
+shared-slice-read-size-of c = search needs
+
+size-of-requires : tie.Need-size-of-requires
+size-of-requires c κs = search needs
+
+add-at : tie.Need-add-at
+add-at c = search needs
+
+size-of-requires-2 : tie.Need-size-of-requires-2
+size-of-requires-2 c κs = search needs
+
+add-at-2 : tie.Need-add-at-2
+add-at-2 c = search needs
+
+packed-size-requires : tie.Need-packed-size-requires
+packed-size-requires c κs = search needs
+
+add-if1 : tie.Need-add-if1
+add-if1 c = search needs
+
+returns : tie.Need-returns
+returns c = search symbols-out
+
+data-allowed-requires : tie.Need-data-allowed-requires
+data-allowed-requires c κs =
+    let sizes = c .before .before .before in
+    let pre = sizes .before .before .before .pre in (
+      pre .0,
+      data-there _ _ _ _ _ _ _ (sizes .size-of .ensures .0) (c .before .before .size-of2 .ensures .0) (c .before .packed-size .ensures .0) (c .if1 .left)
+          (pre .1 .0 .0) (pre .1 .0 .1) (pre .1 .1 .1),
+    )
+
+returns-2 : tie.Need-returns-2
+returns-2 c = search (symbols-wrong, not-true)
+
+returns-3 : tie.Need-returns-3
+returns-3 c = search (symbols-right, not-false)
+
+pub symbol-fault-spec : {M : Type 1} → statement M
+symbol-fault-spec =
+    tie.close
+    (tie.spec
+    shared-slice-read-size-of
+    size-of-requires
+    add-at
+    size-of-requires-2
+    add-at-2
+    packed-size-requires
+    add-if1
+    returns
+    data-allowed-requires
+    returns-2
+    returns-3)
