@@ -1,5 +1,5 @@
 -- A law for each way out of the functions on faults.
-use Prim.Native.Nat.{ℕ, zero, suc, _+_, _*_, _-_, _≤_, _<_, _%_}
+use Prim.Native.Nat.{ℕ, zero, suc, _+_, _*_, _-_, _≤_, _<_, _%_, zero-le}
 use mathlib.Core.Path.{_≡_, refl, sym, _∙_, ap}
 use mathlib.Core.Logic.{_⊎_, inl, inr, ⊎-elim}
 use mathlib.Core.Bool.{Bool, true, false, not, _&&_, _||_, and-false, false≢true}
@@ -9,9 +9,11 @@ use lib.Seq.{slice, getD-drop, getD-take, length-slice}
 use lib.Dec.{ltb, leb, eqb, lit<}
 use native.Mathlib.Omega.{arith}
 use native.Mathlib.Decide.{ℕ-discrete, decLe}
-use borrow.Author.Tests.{eq-eqb, ne-eqb, le-leb, lt-leb, lt-ltb, le-ltb, not-true, not-false}
+use borrow.Author.Tests.{eq-eqb, ne-eqb, le-leb, lt-leb, lt-ltb, le-ltb, not-true, not-false, leb-true, ltb-true}
 use Rattle.lxt_format.specs.Basics.{if_then_else_, _unless_, _orElse_}
 use Rattle.lxt_format.specs.Bytes.{byteAt, toZero}
+use Rattle.lxt_format.specs.BasicsLaws.{neither, kept, stops, and-both}
+use Rattle.lxt_format.specs.ChangesLaws.{previous-lt, faults-none, faults-next, faults-here, Sound, sound}
 use Rattle.lxt_format.specs.BytesLaws.{toZero-le, at-zero, zero-bounds}
 use Rattle.lxt_format.specs.Changes.{commandOf, deltaSize, dataAt, previousOf, commandAllowed, symbolSize, packedSize, symbolsAllowed, dataSize, dataAllowed, changeEnd, previousAllowed, faultAt, chainFault}
 use Rattle.lxt_format.specs.declared.Kind.{Kind}
@@ -111,3 +113,167 @@ module _ (s : List ℕ) (T width o : ℕ) (b size d : ℕ) (eb : b ≡ symbolSiz
       pub symbols-right : c .allowed ≡ true → Found s (symbolFault s T width o) (record { fault = 0; window = c .window })
       unfolding symbolFault
       symbols-right e = record { number = simp (fits, ← allowed-is, e); known = a .known }
+
+-- ---- reals and texts
+
+module _ (s : List ℕ) (T o d : ℕ) (ed : d ≡ deltaSize s o) where
+  real-end : changeEnd s T Real 0 o ≡ o + 1 + d + 8
+  unfolding changeEnd dataSize dataAt
+  real-end = rw ed
+
+  pub real-out : T < o + 1 + d + 8 → 15 ≡ bodyFault s T Real 0 o
+  unfolding bodyFault
+  real-out h = let g : T < changeEnd s T Real 0 o = rw real-end h in simp (lt-leb _ _ g)
+
+  pub real-in : o + 1 + d + 8 ≤ T → 0 ≡ bodyFault s T Real 0 o
+  unfolding bodyFault dataAllowed
+  real-in h = let g : changeEnd s T Real 0 o ≤ T = rw real-end h in simp (le-leb _ _ g)
+
+-- the byte i of a part of the file
+part-at : (s : List ℕ) (p T i : ℕ) → p + i < T → getD (slice p T s) i 0 ≡ byteAt s (p + i)
+part-at s p T i h = getD-drop p _ i 0 ∙ getD-take T s (p + i) 0 h
+
+module _ (s : List ℕ) (T z : ℕ) (w : LastZero s T z) (fits : T ≤ length s) (p : ℕ) where
+  -- a text that starts below z ends before T
+  ends-before : p < z → p + (toZero (slice p T s) + 1) ≤ T
+  ends-before h =
+      let a = w .within in
+      let i : ℕ = z - 1 - p in
+      let e : p + i ≡ z - 1 = omega arith in
+      let len = length-slice p T s fits in
+      let b : toZero (slice p T s) ≤ i = zero-bounds (slice p T s) i (omega arith) (part-at s p T i (omega arith) ∙ rw e (w .zero-there (omega arith))) in
+      omega arith
+
+  -- and one that starts at z or above passes T
+  passes : z ≤ p → T < p + (toZero (slice p T s) + 1)
+  passes h =
+      let len = length-slice p T s fits in
+      elim (decLe (length (slice p T s)) (toZero (slice p T s))) [
+        | yes l ↦ omega arith
+        | no n ↦ (let i : toZero (slice p T s) < length (slice p T s) = omega arith in
+            absurd (w .none-after (p + toZero (slice p T s)) (omega arith) (omega arith) (sym (part-at s p T (toZero (slice p T s)) (omega arith)) ∙ at-zero (slice p T s) i)))
+      ]
+
+module _ (s : List ℕ) (T z o d : ℕ) (w : LastZero s T z) (fits : T ≤ length s) (ed : d ≡ deltaSize s o) where
+  text-end : changeEnd s T Text 0 o ≡ (o + 1 + d) + (toZero (slice (o + 1 + d) T s) + 1)
+  unfolding changeEnd dataSize dataAt
+  text-end = rw ed
+
+  pub text-out : z ≤ o + 1 + d → 15 ≡ bodyFault s T Text 0 o
+  unfolding bodyFault
+  text-out h = let g : T < changeEnd s T Text 0 o = rw text-end (passes s T z w fits (o + 1 + d) h) in simp (lt-leb _ _ g)
+
+  pub text-in : o + 1 + d < z → 0 ≡ bodyFault s T Text 0 o
+  unfolding bodyFault dataAllowed
+  text-in h = let g : changeEnd s T Text 0 o ≤ T = rw text-end (ends-before s T z w fits (o + 1 + d) h) in simp (le-leb _ _ g)
+
+-- ---- a change of any kind
+
+pub width-least : (s : List ℕ) (T z : ℕ) (kind : Kind) (width : ℕ) → Setting s T z kind width → (kind ≡ Bits) ⊎ (kind ≡ Integer) → 1 ≤ width
+unfolding symbolic
+width-least s T z kind width t (inl e) = t .least (rw e)
+width-least s T z kind width t (inr e) = t .least (rw e)
+
+module _ (s : List ℕ) (T z : ℕ) (kind : Kind) (width o : ℕ) (w : Window) (t : Setting s T z kind width) (k : Known s w) where
+  pub bits-body : kind ≡ Bits → (r : Faulted) → Found s (symbolFault s T width o) r → Found s (bodyFault s T kind width o) r
+  unfolding symbolFault bodyFault changeEnd dataSize dataAllowed
+  bits-body e r f = record { number = rw e (f .number); known = f .known }
+
+  pub integer-body : kind ≡ Integer → (r : Faulted) → Found s (symbolFault s T width o) r → Found s (bodyFault s T kind width o) r
+  unfolding symbolFault bodyFault changeEnd dataSize dataAllowed
+  integer-body e r f = record { number = rw e (f .number); known = f .known }
+
+  pub real-body : kind ≡ Real → (v : ℕ) → v ≡ bodyFault s T Real 0 o → Found s (bodyFault s T kind width o) (record { fault = v; window = w })
+  unfolding bodyFault changeEnd dataSize dataAllowed
+  real-body e v f = record { number = rw e f; known = k }
+
+  pub text-body : kind ≡ Text → (v : ℕ) → v ≡ bodyFault s T Text 0 o → Found s (bodyFault s T kind width o) (record { fault = v; window = w })
+  unfolding bodyFault changeEnd dataSize dataAllowed
+  text-body e v f = record { number = rw e f; known = k }
+
+-- ---- all tests of a change
+
+or-assoc : (a b c : ℕ) → ((a orElse b) orElse c) ≡ (a orElse (b orElse c))
+or-assoc zero b c = refl
+or-assoc (suc a) b c = let n : suc a ≡ 0 → ⊥ = omega arith in simp (ne-eqb (suc a) 0 n)
+
+in-two : (a b c d e : ℕ) → (a orElse (b orElse (c orElse (d orElse e)))) ≡ ((a orElse b) orElse ((c orElse d) orElse e))
+in-two a b c d e = sym (or-assoc a b ((c orElse d) orElse e) ∙ ap (λ x. a orElse (b orElse x)) (or-assoc c d e))
+
+-- the end of the data that a change without a fault of its body has
+pub body-ends : (s : List ℕ) (T : ℕ) (kind : Kind) (width o : ℕ) → bodyFault s T kind width o ≡ 0 → dataAt s o ≤ T
+unfolding bodyFault changeEnd
+body-ends s T kind width o h =
+    let a = neither (15 unless leb (dataAt s o + dataSize s T kind width o) T) (16 unless dataAllowed s kind width o) h in
+    let b = leb-true (dataAt s o + dataSize s T kind width o) T (kept 15 _ (lit< tt) (a .0)) in
+    omega arith
+
+module _ (s : List ℕ) (C T : ℕ) (kind : Kind) (width o : ℕ) where
+  tests : faultAt s C T kind width o ≡ (startFault s C T kind o orElse (bodyFault s T kind width o orElse 15 unless previousAllowed s C o))
+  unfolding faultAt startFault bodyFault
+  tests =
+      in-two (15 unless (leb C o && ltb o T)) (16 unless (ltb (byteAt s o) 0x40 && commandAllowed kind (commandOf s o)))
+      (15 unless leb (changeEnd s T kind width o) T) (16 unless dataAllowed s kind width o) (15 unless previousAllowed s C o)
+
+  -- a start without a fault lies before T
+  pub starts-before : (v : ℕ) → v ≡ startFault s C T kind o → v ≡ 0 → o < T
+  unfolding startFault
+  starts-before v e z =
+      let a = neither (15 unless (leb C o && ltb o T)) (16 unless (ltb (byteAt s o) 0x40 && commandAllowed kind (commandOf s o))) (sym e ∙ z) in
+      let b = and-both (leb C o) (ltb o T) (kept 15 _ (lit< tt) (a .0)) in
+      ltb-true o T (b .1)
+
+  module _ (v : ℕ) (ev : v ≡ startFault s C T kind o) where
+    pub bad-start : (w : Window) → Known s w → (v ≡ 0 → ⊥) → Found s (faultAt s C T kind width o) (record { fault = v; window = w })
+    bad-start w k n = record { number = sym (tests ∙ rw (← ev) (stops v _ n)); known = k }
+
+    module _ (hv : v ≡ 0) (r : Faulted) (f : Found s (bodyFault s T kind width o) r) where
+      rest : faultAt s C T kind width o ≡ (r .fault orElse 15 unless previousAllowed s C o)
+      rest = tests ∙ rw (← ev, hv, f .number)
+
+      pub bad-body : (r .fault ≡ 0 → ⊥) → Found s (faultAt s C T kind width o) r
+      bad-body n = record { number = sym (rest ∙ stops (r .fault) _ n); known = f .known }
+
+      pub body-inside : r .fault ≡ 0 → T ≤ length s → dataAt s o ≤ length s
+      body-inside z l = let b = body-ends s T kind width o (sym (f .number) ∙ z) in omega arith
+
+      module _ (z : r .fault ≡ 0) (q : Bool) (eq : q ≡ previousAllowed s C o) where
+        pub bad-previous : q ≡ false → Found s (faultAt s C T kind width o) (record { fault = 15; window = r .window })
+        bad-previous h = record { number = sym (rest ∙ rw (z, ← eq, h)); known = f .known }
+
+        pub no-fault : q ≡ true → Found s (faultAt s C T kind width o) (record { fault = 0; window = r .window })
+        no-fault h = record { number = sym (rest ∙ rw (z, ← eq, h)); known = f .known }
+
+-- ---- a chain
+
+-- what is left of a chain has the first fault of the whole
+pub record Left (s : List ℕ) (C T : ℕ) (kind : Kind) (width start o : ℕ) (w : Window) : Type 0 where
+  pub known : Known s w
+  pub whole : chainFault s C T kind width o ≡ chainFault s C T kind width start
+
+module _ (s : List ℕ) (C T : ℕ) (kind : Kind) (width start : ℕ) where
+  pub at-start : Left s C T kind width start start (record { from = 0; to = 0 })
+  at-start = record { known = record { good = λ i a b. absurd (omega arith); within = zero-le }; whole = refl }
+
+  module _ (o : ℕ) (w : Window) (l : Left s C T kind width start o w) where
+    pub at-end : o ≡ 0 → 0 ≡ chainFault s C T kind width start
+    at-end e = sym (faults-none s C T kind width) ∙ (rw e at (l .whole))
+
+    module _ (some : o ≡ 0 → ⊥) (r : Faulted) (f : Found s (faultAt s C T kind width o) r) where
+      pub fault-found : (r .fault ≡ 0 → ⊥) → r .fault ≡ chainFault s C T kind width start
+      fault-found n = f .number ∙ sym (faults-here s C T kind width o (omega arith) (λ z. n (f .number ∙ z))) ∙ l .whole
+
+      pub inside : r .fault ≡ 0 → T ≤ length s → (o < length s) × (dataAt s o ≤ length s)
+      inside z fits =
+          let g = sound s C T kind width o (sym (f .number) ∙ z) in
+          let a = g .before in
+          let b = g .ends in
+          let c : dataAt s o ≤ changeEnd s T kind width o = (unfold changeEnd in omega arith) in
+          (omega arith, omega arith)
+
+      pub next-left : r .fault ≡ 0 → (p : ℕ) → p ≡ previousOf s o → Left s C T kind width start p (r .window)
+      next-left z p e =
+          record { known = f .known; whole = rw e (sym (faults-next s C T kind width o (omega arith) (sym (f .number) ∙ z)) ∙ l .whole) }
+
+      pub falls : (p : ℕ) → p ≡ previousOf s o → p < o
+      falls p e = let a = previous-lt s o (omega arith) in omega arith

@@ -2,3 +2,4 @@ pub mod DeltaLaws
 pub mod SymbolLaws
 pub mod CodeLaws
 pub mod FaultLaws
+pub mod EndLaws

@@ -5,7 +5,8 @@ ghost use Prim.Native.Nat.{_+_, _*_, _-_, _≤_, _<_};
 ghost use lib.Dec.{ltb, leb};
 ghost use lib.ListN.{length};
 ghost use Rattle.lxt_changes.specs.Windows.{Known};
-ghost use Rattle.lxt_changes.specs.Faults.{LastZero, startFault, symbolFault, Found};
+ghost use Rattle.lxt_format.specs.Changes.{faultAt, chainFault};
+ghost use Rattle.lxt_changes.specs.Faults.{LastZero, startFault, symbolFault, bodyFault, Found, Setting};
 use crate::delta;
 use crate::symbols;
 use crate::symbols::Window;
@@ -74,4 +75,119 @@ fn symbol_fault(file: &[u8], end: usize, width: u32, o: usize, w: Window) -> Fau
         fault: 0,
         window: seen,
     }
+}
+
+// The same of a real: its 8 bytes end before T.
+fn real_fault(file: &[u8], end: usize, o: usize) -> u8
+    requires { ⌜ (o < end) × (end ≤ length (now file)) ⌝ }
+    ensures { λ r. ⌜ r ≡ bodyFault (now (file .entry)) end Kind.Real 0 o ⌝ }
+{
+    if end < o + 1 + delta::size_of(file, o) + 8 {
+        return 15;
+    }
+    0
+}
+
+// The same of a text: it starts at or below the last zero before T.
+fn text_fault(file: &[u8], end: usize, zero: usize, o: usize) -> u8
+    requires { ⌜ LastZero (now file) end zero × ((o < end) × (end ≤ length (now file))) ⌝ }
+    ensures { λ r. ⌜ r ≡ bodyFault (now (file .entry)) end Kind.Text 0 o ⌝ }
+{
+    if zero <= o + 1 + delta::size_of(file, o) {
+        return 15;
+    }
+    0
+}
+
+// The end and the data of a change of any kind.
+fn body_fault(
+    file: &[u8],
+    end: usize,
+    zero: usize,
+    kind: Kind,
+    width: u32,
+    o: usize,
+    w: Window,
+) -> Faulted
+    requires { ⌜ Setting (now file) end zero kind width × (Known (now file) w × (o < end)) ⌝ }
+    ensures { λ r. ⌜ Found (now (file .entry)) (bodyFault (now (file .entry)) end kind width o) r ⌝ }
+{
+    match kind {
+        Kind::Bits => symbol_fault(file, end, width, o, w),
+        Kind::Integer => symbol_fault(file, end, width, o, w),
+        Kind::Real => Faulted {
+            fault: real_fault(file, end, o),
+            window: w,
+        },
+        Kind::Text => Faulted {
+            fault: text_fault(file, end, zero, o),
+            window: w,
+        },
+    }
+}
+
+// The fault of the change at `o` of a facility of that kind and width: C is `from`, T is `end`, and
+// `zero` is one past the last zero before T.
+pub fn change_fault(
+    file: &[u8],
+    from: usize,
+    end: usize,
+    zero: usize,
+    kind: Kind,
+    width: u32,
+    o: usize,
+    w: Window,
+) -> Faulted
+    requires { ⌜ Setting (now file) end zero kind width × Known (now file) w ⌝ }
+    ensures { λ r. ⌜ Found (now (file .entry)) (faultAt (now (file .entry)) from end kind width o) r ⌝ }
+{
+    let first = start_fault(file, from, end, kind, o);
+    if first != 0 {
+        return Faulted {
+            fault: first,
+            window: w,
+        };
+    }
+    let body = body_fault(file, end, zero, kind, width, o, w);
+    if body.fault != 0 {
+        return body;
+    }
+    let seen = body.window;
+    if !delta::previous_allowed(file, from, o) {
+        return Faulted {
+            fault: 15,
+            window: seen,
+        };
+    }
+    Faulted {
+        fault: 0,
+        window: seen,
+    }
+}
+
+// The first fault of the chain that starts at `start`, newest change first, or 0.
+pub fn first_fault(
+    file: &[u8],
+    from: usize,
+    end: usize,
+    zero: usize,
+    kind: Kind,
+    width: u32,
+    start: usize,
+) -> u8
+    requires { ⌜ Setting (now file) end zero kind width ⌝ }
+    ensures { λ r. ⌜ r ≡ chainFault (now (file .entry)) from end kind width start ⌝ }
+{
+    let mut o = start;
+    let mut w = Window { from: 0, to: 0 };
+    while o != 0 {
+        let found = change_fault(file, from, end, zero, kind, width, o, w);
+        if found.fault != 0 {
+            return found.fault;
+        }
+        let seen = found.window;
+        w = seen;
+        o = delta::previous(file, o);
+    }
+    0
 }

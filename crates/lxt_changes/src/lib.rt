@@ -1,5 +1,6 @@
 // One change of a trace: its command, delta, data and previous change, and the faults of a chain:
 // refusals 15 and 16.
 pub mod delta;
+pub mod ends;
 pub mod fault;
 pub mod symbols;
