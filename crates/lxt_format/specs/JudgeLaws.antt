@@ -16,8 +16,8 @@ use Rattle.lxt_format.specs.Names.{namesAllowed}
 use Rattle.lxt_format.specs.Geometry.{isAlias, geometriesAllowed, aliasesAllowed, rootsOf, ownFacts, syncOf}
 use Rattle.lxt_format.specs.Times.{timesAllowed}
 use Rattle.lxt_format.specs.Reals.{realTestAllowed}
-use Rattle.lxt_format.specs.Changes.{previousOf, faultAt, chainFault}
-use Rattle.lxt_format.specs.ChangesLaws.{Sound, sound, faults-next, faults-here}
+use Rattle.lxt_format.specs.Changes.{previousOf, chainFault}
+use Rattle.lxt_format.specs.ChangesLaws.{Sound, sound, chain-more}
 use Rattle.lxt_format.specs.Judge.{tablesRefusal, faultFrom, chainsRefusal, changesApart, fileRefusal}
 
 -- what a file keeps that refusals 1 to 14 pass
@@ -117,9 +117,5 @@ root-sound s h f l e =
 -- the newest change of a chain without a fault has none, and neither have the changes before it
 pub newest-sound : (s : List ℕ) (f o : ℕ) → 0 < o → faultFrom s f o ≡ 0
     → Sound s (changesFrom s) (endOf s) (ownFacts s f .kind) (ownFacts s f .width) o × (faultFrom s f (previousOf s o) ≡ 0)
-unfolding faultFrom
-newest-sound s f o h e =
-    elim (ℕ-discrete (faultAt s (changesFrom s) (endOf s) (ownFacts s f .kind) (ownFacts s f .width) o) 0) [
-      | yes z ↦ (sound s _ _ _ _ o z, sym (faults-next s _ _ _ _ o h z) ∙ e)
-      | no n ↦ absurd (n (sym (faults-here s _ _ _ _ o h n) ∙ e))
-    ]
+unfolding faultFrom chainFault firstFault
+newest-sound s f o h e = let b = neither _ _ (rw (chain-more s o h) at e) in (sound s _ _ _ _ o (b .0), b .1)

@@ -11,6 +11,7 @@ use Rattle.lxt_format.specs.Basics.{select}
 use Rattle.lxt_format.specs.BasicsLaws.{on-test, and-both}
 use Rattle.lxt_format.specs.Sections.{facilityCount, endOf}
 use Rattle.lxt_format.specs.Geometry.{isAlias, rootsOf}
+use Rattle.lxt_format.specs.JudgeLaws.{accepted}
 use Rattle.lxt_format.specs.Judge.{chainsRefusal, allChanges, endAt, fileRefusal}
 use Rattle.lxt_format.specs.Walk.{asks, sort, fullList}
 use Rattle.lxt_format.specs.declared.Pair.{Pair}
@@ -18,7 +19,7 @@ use Rattle.lxt_walk.specs.Lists.{Each, each-map, each-range, each-select
 use Rattle.lxt_walk.specs.Sorted.{Below, below-weaken, each-sort}
 use Rattle.lxt_walk.specs.Bridge.{all-roots}
 use Rattle.lxt_walk.specs.Check17.{Fits, stacked}
-use Rattle.lxt_walk.specs.Accepted.{accepted, Allowed, all-allowed, allowed-fits, apart-stacked}
+use Rattle.lxt_walk.specs.Accepted.{Allowed, all-allowed, allowed-fits, apart-stacked}
 use Rattle.lxt_walk.specs.Roots.{asked-root}
 use Rattle.lxt_walk.specs.Wider.{pairsOf, below-pairs, pairs-chosen}
 

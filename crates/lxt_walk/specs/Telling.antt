@@ -19,7 +19,7 @@ use Rattle.lxt_walk.specs.Pending.{pairOf, pendingChanges, firstOf}
 use Rattle.lxt_walk.specs.Lists.{each-map, each-drop}
 use Rattle.lxt_walk.specs.Handed.{length-after, pending-first, call-hands, call-leaves, call-done}
 use Rattle.lxt_walk.specs.Bridge.{full-start, length-start}
-use Rattle.lxt_walk.specs.Accepted.{accepted, aliases-allowed}
+use Rattle.lxt_format.specs.JudgeLaws.{passed, accepted}
 use Rattle.lxt_walk.specs.Roots.{asked-below}
 use Rattle.lxt_walk.specs.Full.{full-asked, full-allowed, full-falling, falling-at}
 use Rattle.lxt_walk.specs.Record.{length-flat, flat-append, with-here, with-past, length-with, offsets-with, with-again, first-none, record-allowed}
@@ -204,7 +204,7 @@ module _ (s asked : List ℕ) (before : List Pair) (ok : startRefusal s asked (l
   -- so all is as the start left it, but for the pending offsets of roots asked for
   at-end : {handed : ℕ} {end : List Pair} → At handed end → Ended s asked handed (startRecord s asked before) end
   at-end {handed} {end} a = record {
-    pending = λ f h. ap (λ p. p .offset) (at-here a f (asked-below s (aliases-allowed s (accepted s file .tables)) asked f h));
+    pending = λ f h. ap (λ p. p .offset) (at-here a f (asked-below s (passed s (accepted s file .tables) .aliases) asked f h));
     numbers = λ i.
         on-test (ltb i (facilityCount s))
         (λ b. let k = ltb-true _ _ b in rw (at-here a i k, at-here at-start i k))

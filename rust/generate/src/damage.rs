@@ -1,0 +1,1187 @@
+//! Damages a valid trace close to the boundary of a rule.
+//!
+//! Each damage makes two neighbours of a draft: one on the good side of a rule's boundary, mostly
+//! accepted, and one just over it, which is refused with the rule's number.
+
+use crate::draft::{change_bytes, least_k, Change, Draft, Kind};
+use crate::random::Random;
+use crate::valid::{pack, NEEDED, REAL_TEST};
+
+/// The two sides of a boundary.
+#[derive(Clone, Debug)]
+pub struct Neighbours {
+    pub near: Draft,
+    /// What judging answers for `near`: accepted, or refused by a rule further on.
+    pub near_answer: Result<(), u8>,
+    pub over: Draft,
+}
+
+/// A way to damage a draft. `apply` gives none where the draft lacks what it needs.
+#[derive(Clone, Copy)]
+pub struct Damage {
+    /// The refusal that the neighbour over the boundary is given.
+    pub number: u8,
+    pub name: &'static str,
+    pub apply: fn(&Draft, &mut Random) -> Option<Neighbours>,
+}
+
+const fn damage(
+    number: u8,
+    name: &'static str,
+    apply: fn(&Draft, &mut Random) -> Option<Neighbours>,
+) -> Damage {
+    Damage {
+        number,
+        name,
+        apply,
+    }
+}
+
+/// All damages, by refusal.
+pub const DAMAGES: &[Damage] = &[
+    damage(1, "fewer than 6 bytes", too_short),
+    damage(2, "first bytes", first_bytes),
+    damage(2, "version above 4", version),
+    damage(3, "last byte", last_byte),
+    damage(4, "no END from offset 4 on", no_end),
+    damage(5, "compressed data", compressed),
+    damage(6, "64-bit times", long_times),
+    damage(7, "needed tag absent by 0", absent_by_zero),
+    damage(7, "needed tag not met", not_met),
+    damage(8, "start below 4", start_below_4),
+    damage(8, "body passes T", body_passes_end),
+    damage(8, "head of the names passes T", head_passes_end),
+    damage(8, "start past T", start_past_end),
+    damage(8, "C below 4", c_below_4),
+    damage(8, "C above T", c_above_end),
+    damage(8, "count of times too high", times_pass_end),
+    damage(8, "count of names too high", count_passes_end),
+    damage(9, "4,097 facilities", too_many),
+    damage(10, "prefix longer than the name before", prefix_too_long),
+    damage(10, "prefix bytes or zero past T", names_cut),
+    damage(10, "no zero before T", no_zero),
+    damage(10, "name of 1,024 bytes", name_too_long),
+    damage(10, "M too small", memory_too_small),
+    damage(11, "rows of a root", rows_of_root),
+    damage(11, "flags", wrong_flags),
+    damage(11, "width 4,097", too_wide),
+    damage(11, "width far above", far_too_wide),
+    damage(12, "alias target n", alias_target),
+    damage(12, "alias cycle", alias_cycle),
+    damage(13, "first position below 4", first_position),
+    damage(13, "position T", last_position),
+    damage(13, "delta 0", zero_delta),
+    damage(13, "time before first or after last", time_bounds),
+    damage(13, "position sum past 2^32", position_sum),
+    damage(13, "time sum past 2^32", time_sum),
+    damage(13, "no entry for a change", no_entry),
+    damage(14, "08 absent", real_test_absent),
+    damage(14, "08 out of bounds", real_test_out_of_bounds),
+    damage(14, "08 wrong", real_test_wrong),
+    damage(14, "real facility without 08", real_without_test),
+    damage(15, "sync entry below C", sync_below_c),
+    damage(15, "sync entry from T on", sync_from_end),
+    damage(15, "C above the oldest change", c_above_change),
+    damage(15, "change passes T", change_passes_end),
+    damage(15, "text without zero", text_without_zero),
+    damage(15, "previous below 0", previous_below_0),
+    damage(15, "previous below C", previous_below_c),
+    damage(16, "bits 7 and 6", high_bits),
+    damage(16, "command of another kind", wrong_command),
+    damage(16, "command before the change's end", wrong_command_at_end),
+    damage(16, "unused bits", unused_bits),
+    damage(16, "code 9", code_above_8),
+    damage(17, "one offset from two roots", shared_offset),
+    damage(17, "one byte shared by two roots", shared_byte),
+    damage(
+        17,
+        "one byte shared by changes of one root",
+        shared_byte_of_root,
+    ),
+    damage(17, "text runs over a change", text_over_change),
+];
+
+fn accepted(near: Draft, over: Draft) -> Option<Neighbours> {
+    Some(Neighbours {
+        near,
+        near_answer: Ok(()),
+        over,
+    })
+}
+
+/// An unknown tag.
+fn unknown_tag(random: &mut Random) -> u8 {
+    random.within(0x15, 0xFF) as u8
+}
+
+/// A random number that isn't 0.
+fn not_0(random: &mut Random) -> u32 {
+    match random.below(3) {
+        0 => 1,
+        1 => 0x8000_0000,
+        _ => random.word().max(1),
+    }
+}
+
+// ---- 1 to 4: the frame and the list ----
+
+fn too_short(draft: &Draft, random: &mut Random) -> Option<Neighbours> {
+    let mut near = Draft::new(4);
+    near.body = draft.part(0, 4).to_vec();
+    let mut over = near.clone();
+    over.body.truncate(random.pick(&[0, 2, 3, 3]));
+    Some(Neighbours {
+        near,
+        near_answer: Err(7),
+        over,
+    })
+}
+
+fn first_bytes(draft: &Draft, random: &mut Random) -> Option<Neighbours> {
+    let mut over = draft.clone();
+    let at = random.below(2);
+    over.body[at] ^= 1 << random.below(8);
+    accepted(draft.clone(), over)
+}
+
+fn version(draft: &Draft, random: &mut Random) -> Option<Neighbours> {
+    let mut near = draft.clone();
+    let mut over = draft.clone();
+    near.set(2, &[0, random.pick(&[0, 4])]);
+    match random.below(3) {
+        0 => over.set(2, &[0, random.within(5, 255) as u8]),
+        1 => over.set(2, &[0, 5]),
+        _ => over.set(2, &[random.within(1, 255) as u8, 4]),
+    }
+    accepted(near, over)
+}
+
+fn last_byte(draft: &Draft, random: &mut Random) -> Option<Neighbours> {
+    let mut over = draft.clone();
+    over.last = random.pick(&[0xB3, 0xB5, 0x00, 0x34]);
+    accepted(draft.clone(), over)
+}
+
+/// The bytes where the reading would find a tag hold one down to offset 8 or below. The lowest place
+/// is END for the good neighbour: then the bodies pass T.
+fn no_end(draft: &Draft, random: &mut Random) -> Option<Neighbours> {
+    let mut near = draft.clone();
+    near.stop = unknown_tag(random);
+    let mut at = near.end() - 5;
+    while at >= 4 + 5 {
+        near.set(at, &[unknown_tag(random)]);
+        at -= 5;
+    }
+    let mut over = near.clone();
+    near.set(at, &[0]);
+    over.set(at, &[unknown_tag(random)]);
+    Some(Neighbours {
+        near,
+        near_answer: Err(8),
+        over,
+    })
+}
+
+// ---- 5 to 8: tags and bounds ----
+
+fn taken_back(draft: &Draft, random: &mut Random, tag: u8) -> Option<Neighbours> {
+    let mut near = draft.clone();
+    near.add_nearest_end(tag, 0);
+    near.add_nearest_b4(tag, not_0(random));
+    let mut over = draft.clone();
+    over.add_nearest_end(tag, not_0(random));
+    if random.chance(1, 2) {
+        over.add_nearest_b4(tag, 0);
+    }
+    accepted(near, over)
+}
+
+fn compressed(draft: &Draft, random: &mut Random) -> Option<Neighbours> {
+    let tag = random.within(0x0A, 0x12) as u8;
+    taken_back(draft, random, tag)
+}
+
+fn long_times(draft: &Draft, random: &mut Random) -> Option<Neighbours> {
+    taken_back(draft, random, 0x09)
+}
+
+fn absent_by_zero(draft: &Draft, random: &mut Random) -> Option<Neighbours> {
+    let tag = random.pick(&NEEDED);
+    let mut near = draft.clone();
+    near.add_nearest_b4(tag, 0);
+    let mut over = draft.clone();
+    if random.chance(1, 2) {
+        over.add_nearest_end(tag, 0);
+    } else {
+        over.set_item(tag, 0);
+    }
+    accepted(near, over)
+}
+
+fn not_met(draft: &Draft, random: &mut Random) -> Option<Neighbours> {
+    let tag = random.pick(&NEEDED);
+    let mut over = draft.clone();
+    for item in &mut over.items {
+        if item.0 == tag {
+            item.0 = unknown_tag(random);
+        }
+    }
+    accepted(draft.clone(), over)
+}
+
+fn start_below_4(draft: &Draft, random: &mut Random) -> Option<Neighbours> {
+    let tag = random.within(0x02, 0x07) as u8;
+    let mut near = draft.clone();
+    // The one-byte sections and the empty ones may start at 4 in any file.
+    let empty = draft.facilities.is_empty() && matches!(tag, 0x02 | 0x04);
+    if empty || matches!(tag, 0x05 | 0x07) {
+        near.set_item(tag, 4);
+    }
+    let mut over = draft.clone();
+    over.set_item(tag, random.pick(&[1, 3, 3]));
+    accepted(near, over)
+}
+
+fn body_passes_end(draft: &Draft, random: &mut Random) -> Option<Neighbours> {
+    let tag = random.pick(&[0x02, 0x04, 0x05, 0x06, 0x07]);
+    if draft.value(tag) == 0 {
+        return None;
+    }
+    let mut near = draft.clone();
+    let start = near.move_to_end(tag) as u32;
+    let mut over = near.clone();
+    if random.chance(1, 2) {
+        over.set_item(tag, start + 1);
+    } else {
+        over.body.pop();
+        if draft.body_length(tag) == 0 {
+            return None;
+        }
+    }
+    accepted(near, over)
+}
+
+fn head_passes_end(draft: &Draft, random: &mut Random) -> Option<Neighbours> {
+    let mut near = draft.clone();
+    let start = near.move_to_end(0x03);
+    let mut over = near.clone();
+    over.body.truncate(start + random.pick(&[0, 1, 4, 7, 7]));
+    accepted(near, over)
+}
+
+fn start_past_end(draft: &Draft, random: &mut Random) -> Option<Neighbours> {
+    let tag = random.within(0x02, 0x07) as u8;
+    let end = draft.end() as u32;
+    let mut near = draft.clone();
+    if draft.facilities.is_empty() && matches!(tag, 0x02 | 0x04) {
+        near.set_item(tag, end);
+    }
+    let mut over = draft.clone();
+    over.set_item(
+        tag,
+        random.pick(&[end + 1, end + 5, 0xFFFF_FFFF, 0xFFFF_FFF4, 0x8000_0000]),
+    );
+    accepted(near, over)
+}
+
+fn c_below_4(draft: &Draft, random: &mut Random) -> Option<Neighbours> {
+    let mut near = draft.clone();
+    near.set_item(0x01, 4);
+    let mut over = draft.clone();
+    over.set_item(0x01, random.pick(&[1, 2, 3, 3]));
+    accepted(near, over)
+}
+
+fn c_above_end(draft: &Draft, random: &mut Random) -> Option<Neighbours> {
+    let end = draft.end() as u32;
+    let mut near = draft.clone();
+    near.set_item(0x01, end);
+    let mut over = draft.clone();
+    over.set_item(0x01, random.pick(&[end + 1, end + 1, 0xFFFF_FFFF]));
+    // C = T is out of reach for any change.
+    let near_answer = match draft.changes.is_empty() {
+        true => Ok(()),
+        false => Err(15),
+    };
+    Some(Neighbours {
+        near,
+        near_answer,
+        over,
+    })
+}
+
+fn times_pass_end(draft: &Draft, random: &mut Random) -> Option<Neighbours> {
+    let mut near = draft.clone();
+    near.move_to_end(0x06);
+    let mut over = near.clone();
+    // 12 + 8m would wrap to 12 + 8 * entries.
+    let wrapping = draft.entries() | 0x2000_0000;
+    let m = random.pick(&[draft.entries().saturating_add(1), wrapping, 0xFFFF_FFFF]);
+    over.set_word(over.start(0x06), m);
+    accepted(near, over)
+}
+
+/// n so high that 16n bytes pass T, though 4n or a wrapped product wouldn't.
+fn count_passes_end(draft: &Draft, random: &mut Random) -> Option<Neighbours> {
+    let mut near = draft.clone();
+    if !draft.facilities.is_empty() {
+        near.move_to_end(0x04);
+    }
+    let n = near.count();
+    let mut over = near.clone();
+    let fitting = (over.end().saturating_sub(over.start(0x04)) / 16) as u32;
+    let higher = random.pick(&[fitting + 1, n | 0x1000_0000, n | 0x4000_0000, 0xFFFF_FFFF]);
+    over.set_word(over.start(0x03), higher);
+    accepted(near, over)
+}
+
+// ---- 9 and 10: names ----
+
+/// One region of zeros serves as names, geometry and sync: empty names, one bit each, no change.
+fn too_many(draft: &Draft, _: &mut Random) -> Option<Neighbours> {
+    let mut near = draft.clone();
+    let start = near.append(&vec![0; 8 + 16 * 4_097]);
+    near.set_item(0x03, start as u32);
+    near.set_item(0x02, start as u32 + 8);
+    near.set_item(0x04, start as u32 + 8);
+    near.set_word(start, 4_096);
+    near.set_word(start + 4, 4_096);
+    let mut over = near.clone();
+    over.set_word(start, 4_097);
+    over.set_word(start + 4, 4_097);
+    accepted(near, over)
+}
+
+fn prefix_too_long(draft: &Draft, random: &mut Random) -> Option<Neighbours> {
+    if draft.facilities.is_empty() {
+        return None;
+    }
+    let number = random.below(draft.facilities.len());
+    let at = draft.facilities[number].name_at;
+    let before = match number {
+        0 => 0,
+        _ => draft.facilities[number - 1].name.len(),
+    };
+    let prefix = u16::from_be_bytes([draft.byte(at), draft.byte(at + 1)]) as usize;
+    let suffix = draft.facilities[number].name.len().saturating_sub(prefix);
+    if before + suffix > 1_023 {
+        return None;
+    }
+    // Later names have their own prefix, which the longer name still holds; they may grow, too.
+    let mut near = draft.clone();
+    near.set_word(near.start(0x03) + 4, u32::MAX);
+    near.set(at, &(before as u16).to_be_bytes());
+    let mut over = near.clone();
+    let longer = random.pick(&[before + 1, before + 1, before + 256, 65_535]);
+    over.set(at, &(longer as u16).to_be_bytes());
+    accepted(near, over)
+}
+
+fn names_cut(draft: &Draft, random: &mut Random) -> Option<Neighbours> {
+    if draft.facilities.is_empty() {
+        return None;
+    }
+    let mut near = draft.clone();
+    let start = near.move_to_end(0x03);
+    let mut over = near.clone();
+    // Somewhere in the last name, so that its zero or a prefix byte lies past T; or further down.
+    let last = near.facilities[near.facilities.len() - 1].name_at;
+    let cut = match random.below(4) {
+        0 => near.end() - 1,
+        1 => last + 1,
+        2 => last,
+        _ => random.within(start as u64 + 8, near.end() as u64 - 1) as usize,
+    };
+    over.body.truncate(cut);
+    accepted(near, over)
+}
+
+fn no_zero(draft: &Draft, random: &mut Random) -> Option<Neighbours> {
+    if draft.facilities.is_empty() {
+        return None;
+    }
+    let mut near = draft.clone();
+    near.move_to_end(0x03);
+    let mut over = near.clone();
+    let zero = over.end() - 1;
+    over.set(zero, &[random.within(1, 255) as u8]);
+    accepted(near, over)
+}
+
+fn name_too_long(draft: &Draft, random: &mut Random) -> Option<Neighbours> {
+    let n = draft.facilities.len();
+    if n == 0 {
+        return None;
+    }
+    // New names: all empty but one of 1,023 or 1,024 bytes, in one piece or with a prefix.
+    let long = random.below(n);
+    let names = |longest: usize, shared: usize| {
+        let mut body = Vec::new();
+        body.extend((n as u32).to_be_bytes());
+        body.extend(u32::MAX.to_be_bytes());
+        for number in 0..n {
+            if number + 1 == long && shared > 0 {
+                body.extend([0, 0]);
+                body.extend(vec![b'p'; shared]);
+            } else if number == long {
+                let prefix = if number > 0 { shared } else { 0 };
+                body.extend((prefix as u16).to_be_bytes());
+                body.extend(vec![b's'; longest - prefix]);
+            } else {
+                body.extend([0, 0]);
+            }
+            body.push(0);
+        }
+        body
+    };
+    let shared = random.pick(&[0, 1, 1_000, 1_023]);
+    let mut near = draft.clone();
+    let start = near.append(&names(1_023, shared));
+    near.set_item(0x03, start as u32);
+    let mut over = draft.clone();
+    over.append(&names(1_024, shared));
+    over.set_item(0x03, start as u32);
+    accepted(near, over)
+}
+
+fn memory_too_small(draft: &Draft, random: &mut Random) -> Option<Neighbours> {
+    if draft.facilities.is_empty() {
+        return None;
+    }
+    let needed: usize = draft.facilities.iter().map(|it| it.name.len() + 1).sum();
+    let at = draft.start(0x03) + 4;
+    let mut near = draft.clone();
+    near.set_word(at, needed as u32);
+    let mut over = draft.clone();
+    over.set_word(at, random.pick(&[needed as u32 - 1, needed as u32 - 1, 0]));
+    accepted(near, over)
+}
+
+// ---- 11 and 12: geometry and aliases ----
+
+fn any_root(draft: &Draft, random: &mut Random) -> Option<usize> {
+    let roots = draft.roots();
+    match roots.is_empty() {
+        true => None,
+        false => Some(random.pick(&roots)),
+    }
+}
+
+fn rows_of_root(draft: &Draft, random: &mut Random) -> Option<Neighbours> {
+    let root = any_root(draft, random)?;
+    let mut over = draft.clone();
+    let rows = random.pick(&[1, 1, 2, 0x8000_0000, root as u32 | 1]);
+    over.set_word(over.geometry_at(root), rows);
+    accepted(draft.clone(), over)
+}
+
+fn wrong_flags(draft: &Draft, random: &mut Random) -> Option<Neighbours> {
+    let root = any_root(draft, random)?;
+    let mut over = draft.clone();
+    let flags = random.pick(&[3, 5, 6, 7, 0x10, 0x100, 0x12, 0x8000_0000]);
+    over.set_word(over.geometry_at(root) + 12, flags);
+    accepted(draft.clone(), over)
+}
+
+/// A root of kind bits whose width no change depends on.
+fn stretchable_root(draft: &Draft, random: &mut Random) -> Option<usize> {
+    let mut roots = draft.roots();
+    roots.retain(|root| {
+        draft.facilities[*root].kind == Kind::Bits
+            && draft
+                .changes
+                .iter()
+                .all(|change| change.root != *root || change.command > 2)
+    });
+    match roots.is_empty() {
+        true => None,
+        false => Some(random.pick(&roots)),
+    }
+}
+
+fn too_wide(draft: &Draft, random: &mut Random) -> Option<Neighbours> {
+    let root = stretchable_root(draft, random)?;
+    let at = draft.geometry_at(root);
+    let low = random.pick(&[0, -1, -4_096, i32::MIN, i32::MAX - 4_096]);
+    let (mut near, mut over) = (draft.clone(), draft.clone());
+    for (draft, span) in [(&mut near, 4_095), (&mut over, 4_096)] {
+        let (one, other) = match random.chance(1, 2) {
+            true => (low, low + span),
+            false => (low + span, low),
+        };
+        draft.set_word(at + 4, one as u32);
+        draft.set_word(at + 8, other as u32);
+    }
+    accepted(near, over)
+}
+
+/// Widths that would wrap or come out negative.
+fn far_too_wide(draft: &Draft, random: &mut Random) -> Option<Neighbours> {
+    let root = stretchable_root(draft, random)?;
+    let at = draft.geometry_at(root);
+    let mut over = draft.clone();
+    let (msb, lsb) = random.pick(&[
+        (i32::MIN, i32::MAX),
+        (i32::MAX, i32::MIN),
+        (i32::MIN, 0),
+        (i32::MAX, -1),
+        (i32::MIN, i32::MAX - 3),
+    ]);
+    over.set_word(at + 4, msb as u32);
+    over.set_word(at + 8, lsb as u32);
+    accepted(draft.clone(), over)
+}
+
+fn any_alias(draft: &Draft, random: &mut Random) -> Option<usize> {
+    let aliases: Vec<usize> = (0..draft.facilities.len())
+        .filter(|number| draft.facilities[*number].target.is_some())
+        .collect();
+    match aliases.is_empty() {
+        true => None,
+        false => Some(random.pick(&aliases)),
+    }
+}
+
+fn alias_target(draft: &Draft, random: &mut Random) -> Option<Neighbours> {
+    let n = draft.facilities.len();
+    let alias = any_alias(draft, random)?;
+    let at = draft.geometry_at(alias);
+    let mut near = draft.clone();
+    // Any root is a sound target, the last facility if it is one.
+    let target = *draft.roots().last()?;
+    near.set_word(at, target as u32);
+    let mut over = draft.clone();
+    over.set_word(at, random.pick(&[n as u32, n as u32 + 1, 0xFFFF_FFFF]));
+    accepted(near, over)
+}
+
+fn alias_cycle(draft: &Draft, random: &mut Random) -> Option<Neighbours> {
+    let alias = any_alias(draft, random)?;
+    let mut over = draft.clone();
+    match random.below(3) {
+        // Of itself.
+        0 => over.set_word(over.geometry_at(alias), alias as u32),
+        // The root becomes an alias of one that reaches it.
+        1 => {
+            let root = draft.facilities[alias].root;
+            over.set_word(over.geometry_at(root), alias as u32);
+            over.set_word(over.geometry_at(root) + 12, 8);
+        }
+        // The target becomes one.
+        _ => {
+            let target = draft.facilities[alias].target?;
+            over.set_word(over.geometry_at(target), alias as u32);
+            over.set_word(over.geometry_at(target) + 12, 8);
+        }
+    }
+    accepted(draft.clone(), over)
+}
+
+// ---- 13: times ----
+
+/// The draft with a new table of times at the end.
+fn with_times(draft: &Draft, first: u32, last: u32, positions: &[u32], times: &[u32]) -> Draft {
+    let mut new = draft.clone();
+    let mut words = vec![positions.len() as u32, first, last];
+    words.extend(positions);
+    words.extend(times);
+    let start = new.append_words(&words);
+    new.set_item(0x06, start as u32);
+    new
+}
+
+fn first_position(draft: &Draft, random: &mut Random) -> Option<Neighbours> {
+    let below = random.pick(&[0, 1, 3, 3]);
+    accepted(
+        with_times(draft, 0, 9, &[4, 1], &[0, 9]),
+        with_times(draft, 0, 9, &[below, 5 - below], &[0, 9]),
+    )
+}
+
+fn last_position(draft: &Draft, random: &mut Random) -> Option<Neighbours> {
+    // T lies behind the new table of one or two entries.
+    let two = random.chance(1, 2);
+    let end = (draft.end() + if two { 28 } else { 20 }) as u32;
+    let make = |position: u32| match two {
+        true => with_times(draft, 0, 9, &[4, position - 4], &[0, 9]),
+        false => with_times(draft, 0, 9, &[position], &[9]),
+    };
+    let over = random.pick(&[end, end, 0x8000_0000, 0xFFFF_FFFF]);
+    accepted(make(end - 1), make(over))
+}
+
+fn zero_delta(draft: &Draft, random: &mut Random) -> Option<Neighbours> {
+    let m = random.within(2, 5) as usize;
+    let mut positions = vec![1; m];
+    positions[0] = 4;
+    let mut times = vec![1; m];
+    times[0] = random.pick(&[0, 1]);
+    let near = with_times(draft, 0, 9, &positions, &times);
+    let place = 1 + random.below(m - 1);
+    match random.chance(1, 2) {
+        true => positions[place] = 0,
+        false => times[place] = 0,
+    }
+    accepted(near, with_times(draft, 0, 9, &positions, &times))
+}
+
+fn time_bounds(draft: &Draft, random: &mut Random) -> Option<Neighbours> {
+    let low = random.pick(&[1, 100, 0x7FFF_FFFF]);
+    let near = with_times(draft, low, low + 1, &[4, 1], &[low, 1]);
+    let over = match random.below(3) {
+        0 => with_times(draft, low + 1, low + 1, &[4, 1], &[low, 1]),
+        1 => with_times(draft, low, low, &[4, 1], &[low, 1]),
+        _ => with_times(draft, low + 1, low, &[4, 1], &[low, 1]),
+    };
+    accepted(near, over)
+}
+
+/// The sum would wrap to a position below T.
+fn position_sum(draft: &Draft, _: &mut Random) -> Option<Neighbours> {
+    accepted(
+        with_times(draft, 0, 9, &[6, 1, 1], &[0, 1, 1]),
+        with_times(draft, 0, 9, &[6, 0xFFFF_FFFF, 1], &[0, 1, 1]),
+    )
+}
+
+fn time_sum(draft: &Draft, random: &mut Random) -> Option<Neighbours> {
+    let last = 0xFFFF_FFFF;
+    let step = random.pick(&[1, 0x8000_0000, 0xFFFF_FFFE]);
+    accepted(
+        with_times(draft, 0, last, &[4, 1], &[last - step, step]),
+        with_times(draft, 0, last, &[4, 1], &[last - step + 1, step]),
+    )
+}
+
+/// No entry: fine without changes, 13 for any sync entry of a root, wherever it points.
+fn no_entry(draft: &Draft, random: &mut Random) -> Option<Neighbours> {
+    let root = any_root(draft, random)?;
+    let mut near = with_times(draft, random.word(), random.word(), &[], &[]);
+    for other in draft.roots() {
+        near.set_word(near.sync_at(other), 0);
+    }
+    let mut over = near.clone();
+    let sync = random.pick(&[1, 4, draft.end() as u32, 0xFFFF_FFFF]);
+    over.set_word(over.sync_at(root), sync);
+    accepted(near, over)
+}
+
+// ---- 14: the real test ----
+
+fn has_real(draft: &Draft) -> bool {
+    draft.facilities.iter().any(|it| it.kind == Kind::Real)
+}
+
+fn real_test_absent(draft: &Draft, random: &mut Random) -> Option<Neighbours> {
+    if !has_real(draft) {
+        return None;
+    }
+    let mut near = draft.clone();
+    near.add_nearest_b4(0x08, random.pick(&[0, 3, 0xFFFF_FFFF]));
+    let mut over = draft.clone();
+    match random.below(3) {
+        0 => over.set_item(0x08, 0),
+        1 => over.add_nearest_end(0x08, 0),
+        _ => over.items.retain(|(tag, _)| *tag != 0x08),
+    }
+    accepted(near, over)
+}
+
+fn real_test_out_of_bounds(draft: &Draft, random: &mut Random) -> Option<Neighbours> {
+    if !has_real(draft) {
+        return None;
+    }
+    let mut near = draft.clone();
+    let start = near.move_to_end(0x08) as u32;
+    let mut over = near.clone();
+    match random.below(3) {
+        0 => {
+            over.body.pop();
+        }
+        1 => over.set_item(0x08, random.pick(&[1, 3])),
+        _ => over.set_item(0x08, random.pick(&[start + 1, start + 8, 0xFFFF_FFFF])),
+    }
+    accepted(near, over)
+}
+
+fn real_test_wrong(draft: &Draft, random: &mut Random) -> Option<Neighbours> {
+    if !has_real(draft) {
+        return None;
+    }
+    let mut near = draft.clone();
+    let mut test = REAL_TEST;
+    random.shuffle(&mut test);
+    let start = near.append(&test);
+    near.set_item(0x08, start as u32);
+    let mut over = near.clone();
+    let (one, other) = (random.below(8), random.within(1, 7) as usize);
+    let wrong = match random.chance(1, 2) {
+        true => test[(one + other) % 8],
+        false => test[one] ^ 1 << random.below(8),
+    };
+    over.set(start + one, &[wrong]);
+    accepted(near, over)
+}
+
+/// A root without changes becomes real.
+fn real_without_test(draft: &Draft, random: &mut Random) -> Option<Neighbours> {
+    let roots: Vec<usize> = draft
+        .roots()
+        .into_iter()
+        .filter(|root| !draft.has_changes(*root))
+        .collect();
+    if roots.is_empty() || has_real(draft) {
+        return None;
+    }
+    let root = random.pick(&roots);
+    let mut over = draft.clone();
+    over.set_word(over.geometry_at(root) + 12, 2);
+    let mut near = over.clone();
+    let start = near.append(&REAL_TEST);
+    near.set_item(0x08, start as u32);
+    over.set_item(0x08, random.pick(&[0, 3, draft.end() as u32 - 7]));
+    accepted(near, over)
+}
+
+// ---- 15 and 16: one change ----
+
+/// A root and, for the first change it may be given, the entries of the times.
+fn root_for_change(draft: &Draft, random: &mut Random) -> Option<usize> {
+    match draft.entries() {
+        0 => None,
+        _ => any_root(draft, random),
+    }
+}
+
+fn sync_below_c(draft: &Draft, random: &mut Random) -> Option<Neighbours> {
+    let root = root_for_change(draft, random)?;
+    let c = draft.value(0x01).max(4);
+    let mut over = draft.clone();
+    over.set_word(over.sync_at(root), random.pick(&[1, 3, c - 1, c - 1]));
+    accepted(draft.clone(), over)
+}
+
+fn sync_from_end(draft: &Draft, random: &mut Random) -> Option<Neighbours> {
+    let root = root_for_change(draft, random)?;
+    let end = draft.end() as u32;
+    let mut over = draft.clone();
+    over.set_word(
+        over.sync_at(root),
+        random.pick(&[end, end + 1, draft.bytes().len() as u32, 0xFFFF_FFFF]),
+    );
+    accepted(draft.clone(), over)
+}
+
+fn c_above_change(draft: &Draft, _: &mut Random) -> Option<Neighbours> {
+    let oldest = draft.changes.first()?.offset as u32;
+    let mut near = draft.clone();
+    near.set_item(0x01, oldest);
+    let mut over = draft.clone();
+    over.set_item(0x01, oldest + 1);
+    accepted(near, over)
+}
+
+/// A sound value for a root: command and data.
+fn any_value(draft: &Draft, random: &mut Random, root: usize) -> (u8, Vec<u8>) {
+    let width = draft.facilities[root].width as usize;
+    match draft.facilities[root].kind {
+        Kind::Bits => match random.below(4) {
+            0 => (0, pack(&vec![1; width], 1)),
+            1 => (1, pack(&vec![2; width], 2)),
+            2 => (2, pack(&vec![8; width], 4)),
+            _ => (random.within(3, 0x0B) as u8, Vec::new()),
+        },
+        Kind::Integer => match random.below(2) {
+            0 => (0, vec![random.byte(), random.byte(), 0, 0xFF]),
+            _ => (random.pick(&[3, 4]), Vec::new()),
+        },
+        Kind::Real => (random.below(16) as u8, random.any().to_be_bytes().to_vec()),
+        Kind::Text => (random.below(16) as u8, vec![b't', 0]),
+    }
+}
+
+/// A newest change that ends at T, and the same cut: in its data or its delta bytes.
+fn change_passes_end(draft: &Draft, random: &mut Random) -> Option<Neighbours> {
+    let root = root_for_change(draft, random)?;
+    let (command, data) = any_value(draft, random, root);
+    let mut near = draft.clone();
+    let offset = near.append_change(root, command, random.within(1, 4) as usize, &data);
+    let mut over = near.clone();
+    let cut = random.pick(&[near.end() - 1, near.end() - 1, offset + 1]);
+    over.body.truncate(cut);
+    accepted(near, over)
+}
+
+fn text_without_zero(draft: &Draft, random: &mut Random) -> Option<Neighbours> {
+    let root = root_for_change(draft, random)?;
+    if draft.facilities[root].kind != Kind::Text {
+        return None;
+    }
+    let mut near = draft.clone();
+    let length = random.below(20);
+    let text: Vec<u8> = (0..length).map(|_| random.within(1, 255) as u8).collect();
+    let ended = [&text[..], &[0]].concat();
+    near.append_change(root, 0, 1, &ended);
+    let mut over = near.clone();
+    let zero = over.end() - 1;
+    over.set(zero, &[1]);
+    accepted(near, over)
+}
+
+/// A change of a draft that fulfils a condition.
+fn any_change(
+    draft: &Draft,
+    random: &mut Random,
+    wanted: impl Fn(&Change) -> bool,
+) -> Option<Change> {
+    let found: Vec<&Change> = draft
+        .changes
+        .iter()
+        .filter(|change| wanted(change))
+        .collect();
+    match found.is_empty() {
+        true => None,
+        false => Some(found[random.below(found.len())].clone()),
+    }
+}
+
+/// The draft with another delta in a change. None where the delta needs more bytes.
+fn with_delta(draft: &Draft, change: &Change, delta: usize) -> Option<Draft> {
+    if least_k(delta) > change.k {
+        return None;
+    }
+    let mut new = draft.clone();
+    new.set(
+        change.offset + 1,
+        &(delta as u32).to_be_bytes()[4 - change.k..],
+    );
+    Some(new)
+}
+
+fn previous_below_0(draft: &Draft, random: &mut Random) -> Option<Neighbours> {
+    let change = any_change(draft, random, |_| true)?;
+    // Cutting the chain below this change is sound: previous 0.
+    let near = with_delta(draft, &change, change.offset - 2)?;
+    let far = [
+        change.offset - 1,
+        change.offset,
+        0xFFFF_FFFF >> (32 - 8 * change.k),
+    ];
+    let delta = random.pick(&far);
+    if delta <= change.offset - 2 {
+        return None;
+    }
+    accepted(near, with_delta(draft, &change, delta)?)
+}
+
+fn previous_below_c(draft: &Draft, random: &mut Random) -> Option<Neighbours> {
+    let change = any_change(draft, random, |_| true)?;
+    let near = with_delta(draft, &change, change.offset - 2)?;
+    let c = draft.start(0x01).max(4);
+    let previous = random.pick(&[1, c - 1, c - 1, 3]);
+    if previous + 2 > change.offset {
+        return None;
+    }
+    accepted(
+        near,
+        with_delta(draft, &change, change.offset - 2 - previous)?,
+    )
+}
+
+fn high_bits(draft: &Draft, random: &mut Random) -> Option<Neighbours> {
+    let change = any_change(draft, random, |_| true)?;
+    let mut over = draft.clone();
+    let byte = over.byte(change.offset) | random.pick(&[0x40, 0x80, 0xC0]);
+    over.set(change.offset, &[byte]);
+    accepted(draft.clone(), over)
+}
+
+fn wrong_command(draft: &Draft, random: &mut Random) -> Option<Neighbours> {
+    let change = any_change(draft, random, |change| {
+        draft.facilities[change.root].width > 0
+    })?;
+    let commands: &[u8] = match draft.facilities[change.root].kind {
+        Kind::Integer => &[1, 2, 5, 0x0B, 0x0C, 0x0F],
+        _ => &[0x0C, 0x0D, 0x0E, 0x0F],
+    };
+    let high = draft.byte(change.offset) & 0xF0;
+    let mut near = draft.clone();
+    // A change without data is sound in the place of any other.
+    near.set(change.offset, &[high | random.pick(&[3, 4])]);
+    let mut over = draft.clone();
+    over.set(change.offset, &[high | random.pick(commands)]);
+    accepted(near, over)
+}
+
+/// At T - 1 a command byte that isn't allowed is 16; one that is allowed passes T, 15.
+fn wrong_command_at_end(draft: &Draft, random: &mut Random) -> Option<Neighbours> {
+    let root = root_for_change(draft, random)?;
+    let command = match draft.facilities[root].kind {
+        Kind::Bits => 0x0C,
+        Kind::Integer => random.pick(&[1, 5]),
+        _ => 0x40,
+    };
+    let mut near = draft.clone();
+    let offset = near.append(&[0x03]);
+    near.set_word(near.sync_at(root), offset as u32);
+    let mut over = near.clone();
+    over.set(offset, &[command]);
+    Some(Neighbours {
+        near,
+        near_answer: Err(15),
+        over,
+    })
+}
+
+/// How many bits of the last data byte of a change are used; 0 means all, or no data.
+fn used_in_last(draft: &Draft, change: &Change) -> usize {
+    let bits_a_symbol = match change.command {
+        0 => 1,
+        1 => 2,
+        2 => 4,
+        _ => 0,
+    };
+    draft.facilities[change.root].width as usize * bits_a_symbol % 8
+}
+
+fn unused_bits(draft: &Draft, random: &mut Random) -> Option<Neighbours> {
+    let change = any_change(draft, random, |change| {
+        draft.facilities[change.root].kind == Kind::Bits && used_in_last(draft, change) > 0
+    })?;
+    let used = used_in_last(draft, &change);
+    let last = change.end - 1;
+    let mut near = draft.clone();
+    // All unused bits 0 and the lowest used bit 1; that is a sound code in every form.
+    near.set(last, &[0x80 >> (used - 1)]);
+    let mut over = near.clone();
+    let bit = random.pick(&[used, 7, random.clone().within(used as u64, 7) as usize]);
+    over.set(last, &[near.byte(last) | 0x80 >> bit]);
+    accepted(near, over)
+}
+
+fn code_above_8(draft: &Draft, random: &mut Random) -> Option<Neighbours> {
+    let change = any_change(draft, random, |change| {
+        draft.facilities[change.root].kind == Kind::Bits && change.command == 2
+    })?;
+    let width = draft.facilities[change.root].width as usize;
+    let place = random.pick(&[0, width - 1, random.clone().below(width)]);
+    let at = change.data + place / 2;
+    let (mut near, mut over) = (draft.clone(), draft.clone());
+    let high = random.within(9, 15) as u8;
+    for (draft, code) in [(&mut near, 8), (&mut over, random.pick(&[9, high]))] {
+        let byte = match place % 2 {
+            0 => code << 4 | draft.byte(at) & 0x0F,
+            _ => code | draft.byte(at) & 0xF0,
+        };
+        draft.set(at, &[byte]);
+    }
+    accepted(near, over)
+}
+
+// ---- 17: changes that share a byte ----
+
+/// A root joins the chain of another of the same kind and width, at any of its changes.
+fn shared_offset(draft: &Draft, random: &mut Random) -> Option<Neighbours> {
+    let change = any_change(draft, random, |_| true)?;
+    let owner = &draft.facilities[change.root];
+    let joining: Vec<usize> = draft
+        .roots()
+        .into_iter()
+        .filter(|root| {
+            let facility = &draft.facilities[*root];
+            *root != change.root && facility.kind == owner.kind && facility.width == owner.width
+        })
+        .collect();
+    if joining.is_empty() {
+        return None;
+    }
+    let root = random.pick(&joining);
+    let mut near = draft.clone();
+    near.set_word(near.sync_at(root), 0);
+    let mut over = draft.clone();
+    over.set_word(over.sync_at(root), change.offset as u32);
+    accepted(near, over)
+}
+
+/// A root whose last data byte may be any command byte, and a value of it that ends so.
+fn ending_value(draft: &Draft, root: usize, last: u8) -> Option<(u8, Vec<u8>)> {
+    let facility = &draft.facilities[root];
+    let length = match facility.kind {
+        Kind::Bits if facility.width.is_multiple_of(8) => facility.width as usize / 8,
+        Kind::Integer => 4,
+        Kind::Real => 8,
+        _ => return None,
+    };
+    let mut data = vec![0; length];
+    data[length - 1] = last;
+    Some((0, data))
+}
+
+/// Appends a change of `first`, then one of `second` right behind it or on its last byte.
+fn behind_or_within(draft: &Draft, first: usize, second: usize) -> Option<Neighbours> {
+    // Four delta bytes, command 3; reals and texts have their data behind.
+    let data: &[u8] = match draft.facilities[second].kind {
+        Kind::Real => &[0; 8],
+        Kind::Text => &[0],
+        _ => &[],
+    };
+    let (command, ending) = ending_value(draft, first, 0x33)?;
+    let mut near = draft.clone();
+    near.append_change(first, command, 1, &ending);
+    near.append_change(second, 3, 4, data);
+    let mut over = draft.clone();
+    over.append_change(first, command, 1, &ending);
+    let offset = over.end() - 1;
+    let previous = over.word(over.sync_at(second)) as usize;
+    let bytes = change_bytes(offset, previous, 3, 4, data);
+    over.append(&bytes[1..]);
+    over.set_word(over.sync_at(second), offset as u32);
+    accepted(near, over)
+}
+
+fn shared_byte(draft: &Draft, random: &mut Random) -> Option<Neighbours> {
+    let first = root_for_change(draft, random)?;
+    let second = any_root(draft, random)?;
+    match first == second {
+        true => None,
+        false => behind_or_within(draft, first, second),
+    }
+}
+
+fn shared_byte_of_root(draft: &Draft, random: &mut Random) -> Option<Neighbours> {
+    let root = root_for_change(draft, random)?;
+    behind_or_within(draft, root, root)
+}
+
+/// A text, then a change of another root; without its zero the text runs over that change.
+fn text_over_change(draft: &Draft, random: &mut Random) -> Option<Neighbours> {
+    let first = root_for_change(draft, random)?;
+    let second = any_root(draft, random)?;
+    if first == second || draft.facilities[first].kind != Kind::Text {
+        return None;
+    }
+    let (command, data) = any_value(draft, random, second);
+    let mut near = draft.clone();
+    near.append_change(first, 0, 1, b"text\0");
+    let zero = near.end() - 1;
+    near.append_change(second, command, 1, &data);
+    near.append(&[0]);
+    let mut over = near.clone();
+    over.set(zero, b"s");
+    accepted(near, over)
+}
+
+// ---- Blind damage ----
+
+/// One to four edits anywhere, with values that matter often. What becomes of it is open.
+pub fn blind(draft: &Draft, random: &mut Random) -> Vec<u8> {
+    let mut new = draft.clone();
+    for _ in 0..random.within(1, 4) {
+        edit(&mut new, random);
+    }
+    let mut bytes = new.bytes();
+    if random.chance(1, 20) {
+        let at = random.below(bytes.len());
+        match random.below(3) {
+            0 => bytes.truncate(at),
+            1 => bytes.insert(at, random.byte()),
+            _ => {
+                bytes.remove(at);
+            }
+        }
+    }
+    bytes
+}
+
+fn telling_word(draft: &Draft, random: &mut Random) -> u32 {
+    let end = draft.end() as u32;
+    let n = draft.facilities.len() as u32;
+    let c = draft.value(0x01);
+    let offset = match draft.changes.is_empty() {
+        true => 4,
+        false => draft.changes[random.below(draft.changes.len())].offset as u32,
+    };
+    random.pick(&[
+        0,
+        1,
+        2,
+        3,
+        4,
+        8,
+        n.wrapping_sub(1),
+        n,
+        n + 1,
+        c.wrapping_sub(1),
+        c,
+        c.wrapping_add(1),
+        end - 1,
+        end,
+        end + 1,
+        offset,
+        offset + 1,
+        offset - 1,
+        0x7FFF_FFFF,
+        0x8000_0000,
+        0xFFFF_FFFF,
+        random.clone().word(),
+    ])
+}
+
+fn edit(draft: &mut Draft, random: &mut Random) {
+    let word = telling_word(draft, random);
+    match random.below(12) {
+        0 => {
+            let at = random.below(draft.end());
+            draft.set(at, &[random.byte()]);
+        }
+        1 => {
+            let at = random.below(draft.end());
+            draft.set(at, &[draft.byte(at) ^ 1 << random.below(8)]);
+        }
+        2 if !draft.items.is_empty() => {
+            let item = random.below(draft.items.len());
+            draft.items[item].1 = word;
+        }
+        3 if !draft.items.is_empty() => {
+            let item = random.below(draft.items.len());
+            draft.items[item].0 = random.within(0, 0x15) as u8;
+        }
+        4 => {
+            let item = random.below(draft.items.len() + 1);
+            draft
+                .items
+                .insert(item, (random.within(0, 0x15) as u8, word));
+        }
+        5 => draft.set_word(draft.start(0x03) + random.pick(&[0, 4]), word),
+        6 if !draft.facilities.is_empty() => {
+            let facility = random.below(draft.facilities.len());
+            let at = draft.geometry_at(facility) + 4 * random.below(4);
+            draft.set_word(at, word);
+        }
+        7 if !draft.facilities.is_empty() => {
+            let facility = random.below(draft.facilities.len());
+            draft.set_word(draft.sync_at(facility), word);
+        }
+        8 => {
+            let words = 3 + 2 * draft.entries().min(1_000) as usize;
+            draft.set_word(draft.start(0x06) + 4 * random.below(words), word);
+        }
+        9 if !draft.facilities.is_empty() => {
+            let at = draft.facilities[random.below(draft.facilities.len())].name_at;
+            draft.set(at + random.below(4), &[random.pick(&[0, 1, 2, 5, 255])]);
+        }
+        _ => {
+            if draft.changes.is_empty() {
+                return;
+            }
+            let change = draft.changes[random.below(draft.changes.len())].clone();
+            let at = random.within(change.offset as u64, change.end as u64) as usize;
+            let byte = match random.below(3) {
+                0 => draft.byte(at) ^ 1 << random.below(8),
+                1 => draft.byte(at).wrapping_add(random.pick(&[1, 255])),
+                _ => random.byte(),
+            };
+            draft.set(at, &[byte]);
+        }
+    }
+}

@@ -1,0 +1,281 @@
+//! A trace file in parts that can still be edited, with what it means.
+
+/// The kind of a facility.
+#[derive(Clone, Copy, Debug, PartialEq, Eq)]
+pub enum Kind {
+    Bits,
+    Integer,
+    Real,
+    Text,
+}
+
+/// A value as it was meant when the trace was made.
+#[derive(Clone, Debug, PartialEq, Eq)]
+pub enum Meant {
+    /// The symbols as ASCII, one byte each.
+    Symbols(Vec<u8>),
+    Real(u64),
+    Text(Vec<u8>),
+}
+
+/// A facility as it was meant.
+#[derive(Clone, Debug)]
+pub struct Facility {
+    /// The expanded name.
+    pub name: Vec<u8>,
+    /// The offset of its prefix bytes.
+    pub name_at: usize,
+    /// The target of an alias.
+    pub target: Option<usize>,
+    pub root: usize,
+    /// Of the root.
+    pub kind: Kind,
+    pub width: u32,
+    pub msb: i32,
+    pub lsb: i32,
+}
+
+/// A change as it was placed and meant.
+#[derive(Clone, Debug)]
+pub struct Change {
+    pub root: usize,
+    pub offset: usize,
+    pub command: u8,
+    /// The number of delta bytes.
+    pub k: usize,
+    pub data: usize,
+    pub end: usize,
+    pub previous: usize,
+    pub time: u32,
+    pub value: Meant,
+}
+
+/// A trace in parts: the bytes before END, the END byte, the items of the section list from END
+/// towards B4, and the last byte.
+///
+/// `facilities` and `changes` tell what a valid draft means. A damaged draft keeps those of the draft
+/// it was made from, as a map of where things lie.
+#[derive(Clone, Debug)]
+pub struct Draft {
+    /// The header's four bytes, then all bodies. Its length is T.
+    pub body: Vec<u8>,
+    /// The END byte, 00.
+    pub stop: u8,
+    /// Tag and value.
+    pub items: Vec<(u8, u32)>,
+    /// B4.
+    pub last: u8,
+    pub facilities: Vec<Facility>,
+    /// By rising offset.
+    pub changes: Vec<Change>,
+    pub timescale: i8,
+    pub initial: u8,
+}
+
+impl Draft {
+    /// A draft of the header alone.
+    pub fn new(version: u16) -> Self {
+        let [high, low] = version.to_be_bytes();
+        Draft {
+            body: vec![0x01, 0x38, high, low],
+            stop: 0,
+            items: Vec::new(),
+            last: 0xB4,
+            facilities: Vec::new(),
+            changes: Vec::new(),
+            timescale: -9,
+            initial: 3,
+        }
+    }
+
+    /// The file.
+    pub fn bytes(&self) -> Vec<u8> {
+        let mut bytes = self.body.clone();
+        bytes.push(self.stop);
+        for (tag, value) in &self.items {
+            bytes.extend(value.to_be_bytes());
+            bytes.push(*tag);
+        }
+        bytes.push(self.last);
+        bytes
+    }
+
+    /// T
+    pub fn end(&self) -> usize {
+        self.body.len()
+    }
+
+    /// The value that counts for a tag: that nearest END; 0 means absent.
+    pub fn value(&self, tag: u8) -> u32 {
+        let found = self.items.iter().find(|(other, _)| *other == tag);
+        found.map_or(0, |(_, value)| *value)
+    }
+
+    pub fn start(&self, tag: u8) -> usize {
+        self.value(tag) as usize
+    }
+
+    /// Sets the value that counts for a tag.
+    pub fn set_item(&mut self, tag: u8, value: u32) {
+        match self.items.iter_mut().find(|(other, _)| *other == tag) {
+            Some(item) => item.1 = value,
+            None => self.items.insert(0, (tag, value)),
+        }
+    }
+
+    /// Adds an item that counts.
+    pub fn add_nearest_end(&mut self, tag: u8, value: u32) {
+        self.items.insert(0, (tag, value));
+    }
+
+    /// Adds an item that counts only if the tag isn't there yet.
+    pub fn add_nearest_b4(&mut self, tag: u8, value: u32) {
+        self.items.push((tag, value));
+    }
+
+    /// Puts bytes before END and gives their offset.
+    pub fn append(&mut self, bytes: &[u8]) -> usize {
+        let start = self.end();
+        self.body.extend_from_slice(bytes);
+        start
+    }
+
+    pub fn append_words(&mut self, words: &[u32]) -> usize {
+        let start = self.end();
+        for word in words {
+            self.body.extend(word.to_be_bytes());
+        }
+        start
+    }
+
+    /// The bytes of a part of the body; those past its end are missing.
+    pub fn part(&self, start: usize, length: usize) -> &[u8] {
+        let from = start.min(self.end());
+        let to = start.saturating_add(length).min(self.end());
+        &self.body[from..to]
+    }
+
+    /// The 4-byte number at `at`, with 0 for bytes past the end.
+    pub fn word(&self, at: usize) -> u32 {
+        let mut word = [0; 4];
+        let part = self.part(at, 4);
+        word[..part.len()].copy_from_slice(part);
+        u32::from_be_bytes(word)
+    }
+
+    pub fn byte(&self, at: usize) -> u8 {
+        self.part(at, 1).first().copied().unwrap_or(0)
+    }
+
+    /// Sets bytes; those past the end of the body are left out.
+    pub fn set(&mut self, at: usize, bytes: &[u8]) {
+        for (place, byte) in bytes.iter().enumerate() {
+            if let Some(old) = self.body.get_mut(at + place) {
+                *old = *byte;
+            }
+        }
+    }
+
+    pub fn set_word(&mut self, at: usize, word: u32) {
+        self.set(at, &word.to_be_bytes());
+    }
+
+    /// n, as the names' head says.
+    pub fn count(&self) -> u32 {
+        self.word(self.start(0x03))
+    }
+
+    /// m, as the head of the times says.
+    pub fn entries(&self) -> u32 {
+        self.word(self.start(0x06))
+    }
+
+    /// The length of the body of a section. Of 03 that is all names.
+    pub fn body_length(&self, tag: u8) -> usize {
+        match tag {
+            0x02 => 4 * self.facilities.len(),
+            0x03 => match self.facilities.last() {
+                None => 8,
+                Some(last) => {
+                    let mut at = last.name_at + 2;
+                    while self.byte(at) != 0 {
+                        at += 1;
+                    }
+                    // In a damaged draft the names may have been replaced by others further on.
+                    (at + 1).saturating_sub(self.start(0x03))
+                }
+            },
+            0x04 => 16 * self.facilities.len(),
+            0x06 => 12 + 8 * self.entries() as usize,
+            0x08 => 8,
+            _ => 1,
+        }
+    }
+
+    /// Moves a body, by copying it, to the end, so that it ends at T. Gives its new start.
+    pub fn move_to_end(&mut self, tag: u8) -> usize {
+        let old = self.start(tag);
+        let copy = self.part(old, self.body_length(tag)).to_vec();
+        let start = self.append(&copy);
+        self.set_item(tag, start as u32);
+        if tag == 0x03 {
+            for facility in &mut self.facilities {
+                facility.name_at = (facility.name_at + start).saturating_sub(old);
+            }
+        }
+        start
+    }
+
+    pub fn geometry_at(&self, facility: usize) -> usize {
+        self.start(0x04) + 16 * facility
+    }
+
+    pub fn sync_at(&self, facility: usize) -> usize {
+        self.start(0x02) + 4 * facility
+    }
+
+    /// The facilities that are roots.
+    pub fn roots(&self) -> Vec<usize> {
+        (0..self.facilities.len())
+            .filter(|number| self.facilities[*number].target.is_none())
+            .collect()
+    }
+
+    /// Whether any change lies on a root's chain.
+    pub fn has_changes(&self, root: usize) -> bool {
+        self.changes.iter().any(|change| change.root == root)
+    }
+
+    /// Appends a change to the end of the body as the newest of its root. Gives its offset.
+    pub fn append_change(&mut self, root: usize, command: u8, k: usize, data: &[u8]) -> usize {
+        let offset = self.end();
+        let previous = self.word(self.sync_at(root)) as usize;
+        let bytes = change_bytes(offset, previous, command, k, data);
+        self.append(&bytes);
+        self.set_word(self.sync_at(root), offset as u32);
+        offset
+    }
+}
+
+/// The least number of bytes that hold a delta.
+pub fn least_k(delta: usize) -> usize {
+    match delta {
+        0..=0xFF => 1,
+        0x100..=0xFFFF => 2,
+        0x1_0000..=0xFF_FFFF => 3,
+        _ => 4,
+    }
+}
+
+/// A change: command byte, k delta bytes, data. k is raised where the delta needs it.
+pub fn change_bytes(offset: usize, previous: usize, command: u8, k: usize, data: &[u8]) -> Vec<u8> {
+    // In a damaged draft the previous offset may lie behind; then the delta is what comes of it.
+    let delta = (offset as u32)
+        .wrapping_sub(previous as u32)
+        .wrapping_sub(2);
+    let k = k.max(least_k(delta as usize));
+    let mut bytes = vec![(k as u8 - 1) << 4 | command];
+    bytes.extend(&delta.to_be_bytes()[4 - k..]);
+    bytes.extend(data);
+    bytes
+}

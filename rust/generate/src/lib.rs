@@ -1,0 +1,107 @@
+//! Deterministic trace files for comparing readers: valid ones, neighbours of every rule's boundary,
+//! and hostile ones. A seed always gives the same file.
+
+#![forbid(unsafe_code)]
+
+mod damage;
+mod dense;
+mod draft;
+mod hostile;
+mod random;
+mod tables;
+mod valid;
+
+pub use damage::{blind, Damage, Neighbours, DAMAGES};
+pub use dense::dense;
+pub use draft::{change_bytes, Change, Draft, Facility, Kind, Meant};
+pub use hostile::{hostile, hostile_large, widest_sharing};
+pub use random::Random;
+pub use valid::{pack, valid, valid_of, Shape, REAL_TEST};
+
+/// A file and where it comes from.
+#[derive(Clone, Debug)]
+pub struct Case {
+    pub origin: String,
+    pub bytes: Vec<u8>,
+    /// What judging answers, where the making of the file settles it: accepted, or the refusal.
+    pub expected: Option<Result<(), u8>>,
+}
+
+/// A file for any seed: valid, near a boundary, over it, over two boundaries, dense, or blindly damaged.
+pub fn case(seed: u64) -> Case {
+    let mut random = Random::new(seed ^ 0x4C58_5400_0000_0000);
+    match random.below(20) {
+        0..=4 => Case {
+            origin: "valid".to_string(),
+            bytes: valid(random.any()).bytes(),
+            expected: Some(Ok(())),
+        },
+        5..=7 => {
+            let (damage, neighbours) = any_damage(&mut random);
+            Case {
+                origin: format!("near {} {}", damage.number, damage.name),
+                bytes: neighbours.near.bytes(),
+                expected: Some(neighbours.near_answer),
+            }
+        }
+        8..=12 => {
+            let (damage, neighbours) = any_damage(&mut random);
+            Case {
+                origin: format!("over {} {}", damage.number, damage.name),
+                bytes: neighbours.over.bytes(),
+                expected: Some(Err(damage.number)),
+            }
+        }
+        13..=14 => two_damages(&mut random),
+        15..=16 => Case {
+            origin: "dense".to_string(),
+            bytes: dense(random.any()).bytes(),
+            expected: None,
+        },
+        _ => {
+            let base = valid(random.any());
+            Case {
+                origin: "blind".to_string(),
+                bytes: blind(&base, &mut random),
+                expected: None,
+            }
+        }
+    }
+}
+
+/// A damage of a valid trace that has what is needed for it. Each refusal is as likely as any other.
+pub fn any_damage(random: &mut Random) -> (&'static Damage, Neighbours) {
+    let number = random.within(1, 17) as u8;
+    let of_number: Vec<&Damage> = DAMAGES.iter().filter(|it| it.number == number).collect();
+    let damage = of_number[random.below(of_number.len())];
+    loop {
+        let base = valid(random.any());
+        if let Some(neighbours) = (damage.apply)(&base, random) {
+            return (damage, neighbours);
+        }
+    }
+}
+
+/// Two damages in one file, the one of the higher number first, since the map of the draft then
+/// serves the other one better. Where two refusals apply, the order decides, so mostly the lower
+/// number is given; but the second damage may undo the first or move what it was about.
+fn two_damages(random: &mut Random) -> Case {
+    loop {
+        let (first, neighbours) = any_damage(random);
+        let second = &DAMAGES[random.below(DAMAGES.len())];
+        // Too short a file or one without END has no map for a second damage.
+        if second.number > first.number || first.number == 1 || first.number == 4 {
+            continue;
+        }
+        if let Some(both) = (second.apply)(&neighbours.over, random) {
+            return Case {
+                origin: format!(
+                    "over {} {} and {} {}",
+                    second.number, second.name, first.number, first.name
+                ),
+                bytes: both.over.bytes(),
+                expected: None,
+            };
+        }
+    }
+}

@@ -1,0 +1,318 @@
+//! The generator, checked with the reference reader.
+
+use lxt_generate::*;
+use lxt_reference as reader;
+
+/// What judging answers, without the summary.
+fn answer(bytes: &[u8]) -> Result<(), u8> {
+    reader::judge(bytes).map(|_| ())
+}
+
+fn slot(answer: Result<(), u8>) -> usize {
+    match answer {
+        Ok(()) => 0,
+        Err(number) => usize::from(number),
+    }
+}
+
+fn print_histogram(title: &str, counts: &[u32; 18]) {
+    println!("{title}");
+    println!("  accepted {:6}", counts[0]);
+    for (number, count) in counts.iter().enumerate().skip(1) {
+        println!("  {number:8} {count:6}");
+    }
+}
+
+/// Every valid trace is accepted, and the reader answers what was meant.
+#[test]
+fn valid_traces_are_read_as_meant() {
+    let mut most_changes = 0;
+    for seed in 0..3_000 {
+        let draft = valid(seed);
+        let bytes = draft.bytes();
+        let judged = match reader::Judged::new(&bytes) {
+            Ok(judged) => judged,
+            Err(number) => panic!("seed {seed}: refused {number}"),
+        };
+        let summary = judged.summary();
+        assert_eq!(summary.facilities as usize, draft.facilities.len());
+        assert_eq!(summary.changes, draft.value(0x01));
+        assert_eq!(summary.end as usize, draft.end());
+        assert_eq!(summary.timescale, draft.timescale);
+        assert_eq!(summary.initial, draft.initial);
+        most_changes = most_changes.max(draft.changes.len());
+
+        let mut names = vec![0xAA; 1_030];
+        for (number, facility) in draft.facilities.iter().enumerate() {
+            let number = number as u32;
+            assert_eq!(judged.root(number), Ok(facility.root as u32));
+            let kind = match facility.kind {
+                Kind::Bits => reader::Kind::Bits,
+                Kind::Integer => reader::Kind::Integer,
+                Kind::Real => reader::Kind::Real,
+                Kind::Text => reader::Kind::Text,
+            };
+            assert_eq!(
+                judged.facts(number),
+                Ok(reader::Facts {
+                    width: facility.width,
+                    msb: facility.msb,
+                    lsb: facility.lsb,
+                    kind,
+                })
+            );
+            assert_eq!(judged.name(number, &mut names), Ok(facility.name.len()));
+            assert_eq!(&names[..facility.name.len()], &facility.name[..]);
+            assert!(names[facility.name.len()..1_023].iter().all(|it| *it == 0));
+            assert_eq!(names[1_023..], [0xAA; 7]);
+        }
+
+        // The full list is all changes by falling offset, and each change is as meant.
+        let n = draft.facilities.len();
+        let list = judged.full_list(&vec![1; n]).expect("a full list");
+        let meant: Vec<(u32, u32)> = draft
+            .changes
+            .iter()
+            .rev()
+            .map(|change| (change.root as u32, change.offset as u32))
+            .collect();
+        assert_eq!(list, meant);
+        for change in &draft.changes {
+            let (root, offset) = (change.root as u32, change.offset as u32);
+            assert_eq!(
+                judged.change_before(root, offset),
+                Ok(change.previous as u32)
+            );
+            let mut lent = vec![b'?'; 4_100];
+            let (time, value) = judged.change(root, offset, &mut lent).expect("a change");
+            assert_eq!(time, change.time);
+            assert!(shows(&bytes, value, &lent, &change.value), "seed {seed}");
+        }
+        values_at_times(&draft, &bytes, &judged);
+        if seed % 10 == 0 {
+            walks(&draft, &bytes, seed);
+        }
+    }
+    assert!(most_changes > 1_000);
+}
+
+/// Whether an answer shows the value that was meant.
+fn shows(file: &[u8], value: reader::Value, lent: &[u8], meant: &Meant) -> bool {
+    match (value, meant) {
+        (reader::Value::Bits { width }, Meant::Symbols(symbols)) => {
+            lent[..width as usize] == symbols[..]
+                && lent[width as usize..].iter().all(|it| *it == b'?')
+        }
+        (reader::Value::Real { bits }, Meant::Real(real)) => bits == *real,
+        (reader::Value::Text { start, length }, Meant::Text(text)) => {
+            let (start, end) = (start as usize, (start + length) as usize);
+            file[start..end] == text[..] && file[end] == 0
+        }
+        _ => false,
+    }
+}
+
+/// The value at a time is that of the change of highest offset with time <= t.
+fn values_at_times(draft: &Draft, bytes: &[u8], judged: &reader::Judged) {
+    let mut random = Random::new(draft.end() as u64);
+    for (number, facility) in draft.facilities.iter().enumerate().take(8) {
+        for _ in 0..4 {
+            let time = match draft.changes.is_empty() {
+                true => random.word(),
+                false => {
+                    let change = &draft.changes[random.below(draft.changes.len())];
+                    let near = random.pick(&[0, 1, u32::MAX]);
+                    change.time.wrapping_add(near)
+                }
+            };
+            let expected = draft
+                .changes
+                .iter()
+                .rev()
+                .find(|change| change.root == facility.root && change.time <= time);
+            let mut lent = vec![b'?'; 4_100];
+            let value = judged
+                .value_at(number as u32, time, &mut lent)
+                .expect("a value");
+            match expected {
+                Some(change) => assert!(shows(bytes, value, &lent, &change.value)),
+                None => match facility.kind {
+                    Kind::Bits | Kind::Integer => {
+                        let symbol = b"01ZXHUWL-"[usize::from(draft.initial)];
+                        let symbols = vec![symbol; facility.width as usize];
+                        assert!(shows(bytes, value, &lent, &Meant::Symbols(symbols)));
+                    }
+                    Kind::Real | Kind::Text => assert_eq!(value, reader::Value::NotDriven),
+                },
+            }
+        }
+    }
+}
+
+/// Starting and carrying on in steps of any size gives the full list, in order and once.
+fn walks(draft: &Draft, bytes: &[u8], seed: u64) {
+    let mut random = Random::new(seed);
+    let n = draft.facilities.len();
+    let asked: Vec<u8> = (0..n).map(|_| random.pick(&[0, 0, 1, 255])).collect();
+    let list = reader::full_list(bytes, &asked).expect("a full list");
+    let (mut numbers, mut offsets) = (vec![9; n + 2], vec![8; n + 2]);
+    reader::start_walk(bytes, &asked, &mut numbers, &mut offsets).expect("a start");
+    let mut handed_out = 0;
+    let mut calls = 0;
+    loop {
+        let size = match calls {
+            0 => 0,
+            1..=20 => random.below(4),
+            _ => list.len(),
+        };
+        calls += 1;
+        let mut output = vec![0xEEEE_EEEE; 2 * size + 3];
+        let (count, done) =
+            reader::carry_on(bytes, &mut numbers, &mut offsets, &mut output, size as u64)
+                .expect("a carry-on call");
+        let count = count as usize;
+        assert_eq!(count, size.min(list.len() - handed_out));
+        for (place, pair) in list[handed_out..handed_out + count].iter().enumerate() {
+            assert_eq!((output[2 * place], output[2 * place + 1]), *pair);
+        }
+        assert!(output[2 * count..].iter().all(|it| *it == 0xEEEE_EEEE));
+        handed_out += count;
+        assert_eq!(done, handed_out == list.len());
+        for number in 0..n {
+            let pending = list[handed_out..]
+                .iter()
+                .find(|(root, _)| *root == number as u32)
+                .map_or(0, |(_, offset)| *offset);
+            assert_eq!((numbers[number], offsets[number]), (number as u32, pending));
+        }
+        assert_eq!((&numbers[n..], &offsets[n..]), (&[9, 9][..], &[8, 8][..]));
+        if done {
+            break;
+        }
+    }
+}
+
+/// Each damage gives its refusal just over the boundary, and acceptance or the refusal named just
+/// before it, often enough.
+#[test]
+fn neighbours_of_every_boundary() {
+    let mut refused = [0; 18];
+    let mut before = [0; 18];
+    for damage in DAMAGES {
+        let mut made = 0;
+        let mut accepted = 0;
+        for seed in 0..400 {
+            if made >= 40 {
+                break;
+            }
+            let base = valid(seed);
+            if base.end() > 20_000 {
+                continue;
+            }
+            let mut random = Random::new(seed + 1);
+            let Some(neighbours) = (damage.apply)(&base, &mut random) else {
+                continue;
+            };
+            made += 1;
+            let over = answer(&neighbours.over.bytes());
+            assert_eq!(
+                over,
+                Err(damage.number),
+                "over: {}, seed {seed}",
+                damage.name
+            );
+            let near = answer(&neighbours.near.bytes());
+            assert_eq!(
+                near, neighbours.near_answer,
+                "near: {}, seed {seed}",
+                damage.name
+            );
+            refused[slot(over)] += 1;
+            before[slot(near)] += 1;
+            accepted += u32::from(near.is_ok());
+        }
+        assert!(made >= 10, "{}: {made} made", damage.name);
+        println!(
+            "{:2} {:45} {made:3} made, {accepted:3} with an accepted neighbour",
+            damage.number, damage.name
+        );
+    }
+    print_histogram("over the boundary", &refused);
+    print_histogram("before the boundary", &before);
+    assert!((1..=17).all(|number| refused[number] > 0));
+}
+
+/// Over fixed seeds every refusal 1 to 17 and acceptance occurs.
+#[test]
+fn every_answer_occurs() {
+    let mut counts = [0; 18];
+    let mut blind_counts = [0; 18];
+    for seed in 0..6_000 {
+        let case = case(seed);
+        let found = answer(&case.bytes);
+        if let Some(expected) = case.expected {
+            assert_eq!(found, expected, "seed {seed}: {}", case.origin);
+        }
+        counts[slot(found)] += 1;
+        if case.origin == "blind" {
+            blind_counts[slot(found)] += 1;
+        }
+    }
+    print_histogram("all cases", &counts);
+    print_histogram("blind cases", &blind_counts);
+    assert!(counts.iter().all(|count| *count >= 50));
+}
+
+/// Dense chains come to every answer that chains can have.
+#[test]
+fn dense_chains() {
+    let mut counts = [0; 18];
+    for seed in 0..4_000 {
+        counts[slot(answer(&dense(seed).bytes()))] += 1;
+    }
+    print_histogram("dense", &counts);
+    assert!(counts[1..15].iter().all(|count| *count == 0));
+    assert!(counts[0] > 200 && counts[15..].iter().all(|count| *count > 200));
+}
+
+/// The same seed gives the same file.
+#[test]
+fn seeds_are_deterministic() {
+    for seed in 0..200 {
+        assert_eq!(case(seed).bytes, case(seed).bytes);
+        assert_eq!(valid(seed).bytes(), valid(seed).bytes());
+    }
+    assert_ne!(valid(1).bytes(), valid(2).bytes());
+}
+
+#[test]
+fn hostile_files_are_judged() {
+    let cases = hostile();
+    for case in &cases {
+        let expected = case.expected.expect("a settled answer");
+        assert_eq!(answer(&case.bytes), expected, "{}", case.origin);
+    }
+    for (start, count) in [("texts", 6), ("4-bit", 4), ("no data", 4), ("1-bit", 2)] {
+        let of_kind: Vec<&Case> = cases
+            .iter()
+            .filter(|case| case.origin.starts_with(start))
+            .collect();
+        assert_eq!(of_kind.len(), count);
+        assert!(of_kind.iter().all(|case| case.bytes.len() == 65_536));
+    }
+}
+
+#[test]
+fn the_longest_hostile_files_are_judged() {
+    for case in hostile_large() {
+        let expected = case.expected.expect("a settled answer");
+        assert_eq!(answer(&case.bytes), expected, "{}", case.origin);
+    }
+}
+
+/// 4,096 roots of different widths on one chain in the longest file: minutes of reading.
+#[test]
+#[ignore = "takes minutes"]
+fn as_many_visits_as_there_can_be() {
+    assert_eq!(answer(&widest_sharing(16_777_216, 4_096)), Err(17));
+}

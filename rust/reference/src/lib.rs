@@ -1,0 +1,79 @@
+//! A plain reader of LXT traces, written from the rules of paper 01 alone.
+//!
+//! It exists to be compared, call by call, with another reader. So it follows the paper's order of
+//! checks, uses memory freely and judges the whole file again in every call. A refusal is its
+//! number, 1 to 22, and changes nothing lent.
+
+#![forbid(unsafe_code)]
+
+mod chains;
+mod dump;
+mod questions;
+mod tables;
+mod walk;
+
+#[cfg(test)]
+mod tests;
+
+pub use chains::previous_offset;
+pub use dump::dump;
+pub use questions::{
+    chains, change, change_before, facts, judge, name, root, spans, value_at, Judged,
+};
+pub use walk::{carry_on, full_list, start_walk};
+
+/// The limits of a file's length, in bytes.
+pub const SHORTEST_FILE: usize = 6;
+pub const LONGEST_FILE: usize = 16_777_216;
+/// The limit of the number of facilities.
+pub const MOST_FACILITIES: u32 = 4_096;
+/// The limit of a name, in bytes. It is also the room that asking for a name needs.
+pub const LONGEST_NAME: usize = 1_023;
+/// The limit of a facility's width, in bits.
+pub const WIDEST_FACILITY: u32 = 4_096;
+/// The limit of the small program's input, in bytes.
+pub const LONGEST_INPUT: usize = 65_536;
+
+/// The symbols of the codes 0 to 8.
+pub const SYMBOLS: [u8; 9] = *b"01ZXHUWL-";
+
+/// The kind of a facility.
+#[derive(Clone, Copy, Debug, PartialEq, Eq, Hash, PartialOrd, Ord)]
+pub enum Kind {
+    Bits,
+    Integer,
+    Real,
+    Text,
+}
+
+/// The facts of a facility: width and kind, with msb and lsb beside them.
+#[derive(Clone, Copy, Debug, PartialEq, Eq)]
+pub struct Facts {
+    pub width: u32,
+    pub msb: i32,
+    pub lsb: i32,
+    pub kind: Kind,
+}
+
+/// What judging answers for an accepted file.
+#[derive(Clone, Copy, Debug, PartialEq, Eq)]
+pub struct Summary {
+    /// n
+    pub facilities: u32,
+    /// C
+    pub changes: u32,
+    /// T
+    pub end: u32,
+    pub timescale: i8,
+    /// The initial symbol as its code 0 to 8.
+    pub initial: u8,
+}
+
+/// The value of a facility. The symbols of `Bits` stand in the lent bits.
+#[derive(Clone, Copy, Debug, PartialEq, Eq)]
+pub enum Value {
+    Bits { width: u32 },
+    Real { bits: u64 },
+    Text { start: u32, length: u32 },
+    NotDriven,
+}

@@ -1,0 +1,130 @@
+//! Starting a walk and carrying on.
+
+use crate::chains::ChainFollower;
+use crate::questions::Judged;
+use crate::tables::{read_tables, Trace};
+use std::cmp::Reverse;
+use std::collections::BinaryHeap;
+
+impl Trace<'_> {
+    /// Whether the asked bytes ask for this root, itself or by an alias. Never for an alias.
+    pub(crate) fn asks_for(&self, asked: &[u8], root: usize) -> bool {
+        self.is_root(root)
+            && asked
+                .iter()
+                .zip(&self.roots)
+                .any(|(asked, asked_root)| *asked != 0 && *asked_root == root)
+    }
+}
+
+/// How many pairs the record holds.
+fn pairs(numbers: &[u32], offsets: &[u32]) -> usize {
+    numbers.len().min(offsets.len())
+}
+
+/// Starts a walk. Pair i of the record is (numbers[i], offsets[i]); the two have one length. After
+/// the file: 21 (fewer than n pairs), then 22 (asked bytes not n long).
+pub fn start_walk(
+    file: &[u8],
+    asked: &[u8],
+    numbers: &mut [u32],
+    offsets: &mut [u32],
+) -> Result<(), u8> {
+    let judged = Judged::new(file)?;
+    let trace = judged.trace();
+    let n = trace.count();
+    if pairs(numbers, offsets) < n {
+        return Err(21);
+    }
+    if asked.len() != n {
+        return Err(22);
+    }
+    for facility in 0..n {
+        numbers[facility] = facility as u32;
+        offsets[facility] = match trace.asks_for(asked, facility) {
+            true => trace.sync[facility],
+            false => 0,
+        };
+    }
+    Ok(())
+}
+
+/// Carries on with a walk: up to `size` times the highest pending offset is handed out and replaced
+/// by its previous one. Answers how many were handed out and whether all pending offsets are 0.
+///
+/// Only the checks 1 to 14 are made of the file. Then 21 (fewer than n pairs), 20, and 21 (output
+/// shorter than 2 * `size`).
+pub fn carry_on(
+    file: &[u8],
+    numbers: &mut [u32],
+    offsets: &mut [u32],
+    output: &mut [u32],
+    size: u64,
+) -> Result<(u32, bool), u8> {
+    let trace = read_tables(file)?;
+    let n = trace.count();
+    if pairs(numbers, offsets) < n {
+        return Err(21);
+    }
+    let mut follower = ChainFollower::new(&trace);
+    check_record(&trace, &mut follower, &numbers[..n], &offsets[..n])?;
+    if (output.len() as u128) < 2 * u128::from(size) {
+        return Err(21);
+    }
+
+    // The highest offset first; of equal offsets the lowest facility.
+    let mut pending: BinaryHeap<(u32, Reverse<usize>)> = (0..n)
+        .filter(|facility| offsets[*facility] != 0)
+        .map(|facility| (offsets[facility], Reverse(facility)))
+        .collect();
+    let mut count: usize = 0;
+    while (count as u64) < size {
+        let Some((offset, Reverse(facility))) = pending.pop() else {
+            break;
+        };
+        output[2 * count] = facility as u32;
+        output[2 * count + 1] = offset;
+        count += 1;
+        // The whole chain down from a pending offset has been read, so this isn't refused.
+        let change = follower.reader.read(&trace.facts[facility], offset)?;
+        offsets[facility] = change.previous;
+        if change.previous != 0 {
+            pending.push((change.previous, Reverse(facility)));
+        }
+    }
+    Ok((count as u32, pending.is_empty()))
+}
+
+/// 20: a pair has a wrong number, or a pending offset not 0 of an alias or whose chain downwards
+/// breaks a rule of 15 or 16. It need not be on the root's own chain.
+fn check_record(
+    trace: &Trace,
+    follower: &mut ChainFollower,
+    numbers: &[u32],
+    offsets: &[u32],
+) -> Result<(), u8> {
+    for facility in 0..trace.count() {
+        if numbers[facility] as usize != facility {
+            return Err(20);
+        }
+        let pending = offsets[facility];
+        if pending == 0 {
+            continue;
+        }
+        if !trace.is_root(facility) {
+            return Err(20);
+        }
+        if follower
+            .follow(&trace.facts[facility], pending, |_| {})
+            .is_err()
+        {
+            return Err(20);
+        }
+    }
+    Ok(())
+}
+
+/// The full list of a walk, made from the file and the asked bytes alone: see `Judged::full_list`.
+pub fn full_list(file: &[u8], asked: &[u8]) -> Result<Vec<(u32, u32)>, u8> {
+    Judged::new(file)?.full_list(asked)
+}
