@@ -33,7 +33,7 @@ refusedTables k =
       times = 0;
       timescale = pos 0;
       initial = 0;
-      order = replicate 8 0
+      order = replicate 8 0;
     }
 
 -- what refusals 1 to 14 pass, or the refusal. The byte order of reals is 0 at each place where there is no real facility.
@@ -51,6 +51,6 @@ tablesOf s =
       times = sectionOf s 0x06;
       timescale = timescaleOf s;
       initial = initialOf s;
-      order = if hasReal s then byteOrder s else replicate 8 0
+      order = if hasReal s then byteOrder s else replicate 8 0;
     }
     else refusedTables (tablesRefusal s)

@@ -1,4 +1,5 @@
 // The tables of a trace: names, geometry, aliases, times and the real test: refusals 10 to 14.
+pub mod names; // names.rt: refusal 10
 
 // What refusals 1 to 14 pass: n, m, C, T, where each table starts, the timescale, the initial symbol
 // and the byte order of reals (all 0 where there is no real facility); or the refusal's number, and
