@@ -1,4 +1,5 @@
 // The tables of a trace: names, geometry, aliases, times and the real test: refusals 10 to 14.
+pub mod geometry; // geometry.rt: refusal 11, facts and aliases
 pub mod names; // names.rt: refusal 10
 
 // What refusals 1 to 14 pass: n, m, C, T, where each table starts, the timescale, the initial symbol
