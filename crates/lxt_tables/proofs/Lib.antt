@@ -1,2 +1,3 @@
 pub mod NamesLaws
 pub mod FacilityLaws
+pub mod AliasLaws

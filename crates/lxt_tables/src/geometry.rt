@@ -1,4 +1,4 @@
-// The geometry of a trace, entry by entry: refusal 11, the facts of a facility, aliases.
+// The geometry of a trace, entry by entry: refusal 11, and the facts of a facility.
 ghost use mathlib.Core.Path.{_≡_};
 ghost use mathlib.Core.Bool.{true, false};
 ghost use Prim.Native.Nat.{_≤_, _<_};

@@ -1,5 +1,6 @@
 // The tables of a trace: names, geometry, aliases, times and the real test: refusals 10 to 14.
-pub mod geometry; // geometry.rt: refusal 11, facts and aliases
+pub mod aliases; // aliases.rt: refusal 12
+pub mod geometry; // geometry.rt: refusal 11 and facts
 pub mod names; // names.rt: refusal 10
 
 // What refusals 1 to 14 pass: n, m, C, T, where each table starts, the timescale, the initial symbol
