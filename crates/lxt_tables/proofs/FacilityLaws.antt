@@ -19,11 +19,12 @@ use Rattle.lxt_format.specs.Basics.{if_then_else_, range, all}
 use Rattle.lxt_format.specs.BasicsLaws.{and-both, or-either, on-test, all-turn, all-stop, all-end}
 use Rattle.lxt_format.specs.Bytes.{u32At, signed}
 use Rattle.lxt_format.specs.Sections.{sectionOf, facilityCount}
-use Rattle.lxt_format.specs.Geometry.{rowsOf, msbOf, lsbOf, flagsOf, isAlias, flagsAllowed, kindOfFlags, widthBetween, geometryAllowed, geometriesAllowed, factsBy, ownFacts}
+use Rattle.lxt_format.specs.Geometry.{rowsOf, msbOf, lsbOf, flagsOf, isAlias, flagsAllowed, kindOfFlags, widthBetween, geometryAllowed, geometriesAllowed, factsBy, ownFacts, syncOf}
 use Rattle.lxt_format.specs.declared.Kind.{Kind}
 use Rattle.lxt_format.specs.declared.Kind.the-variants.{Bits, Integer, Real, Text}
 use Rattle.lxt_format.specs.declared.Facts.{Facts}
 use Rattle.lxt_tables.specs.Stage.{Geometry}
+use Rattle.lxt_tables.specs.Asked.{Sync}
 
 -- ---- the four numbers of an entry
 
@@ -43,6 +44,10 @@ module _ (s : List ℕ) (g n f : ℕ) (p : Geometry s g n) (v : ℕ) where
   pub flags-is : v ≡ u32At s (g + 16 * f + 12) → v ≡ flagsOf s f
   unfolding flagsOf
   flags-is e = e ∙ rw (p .start)
+
+pub sync-is : (s : List ℕ) (b n f : ℕ) (p : Sync s b n) (v : ℕ) → v ≡ u32At s (b + 4 * f) → v ≡ syncOf s f
+unfolding syncOf
+sync-is s b n f p v e = e ∙ rw (p .start)
 
 pub alias-is : (s : List ℕ) (f v : ℕ) → v ≡ flagsOf s f → eqb (v / 8 % 2) 1 ≡ isAlias s f
 unfolding isAlias

@@ -1,3 +1,5 @@
 pub mod NamesLaws
 pub mod FacilityLaws
 pub mod AliasLaws
+pub mod TimesLaws
+pub mod RootsLaws

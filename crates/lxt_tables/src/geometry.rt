@@ -4,8 +4,9 @@ ghost use mathlib.Core.Bool.{true, false};
 ghost use Prim.Native.Nat.{_≤_, _<_};
 ghost use Rattle.lxt_format.specs.Bytes.{signed};
 ghost use Rattle.lxt_format.specs.Limits.{widestFacility};
-ghost use Rattle.lxt_format.specs.Geometry.{rowsOf, msbOf, lsbOf, flagsOf, isAlias, flagsAllowed, kindOfFlags, widthBetween, geometryAllowed, geometriesAllowed, factsBy, ownFacts};
+ghost use Rattle.lxt_format.specs.Geometry.{rowsOf, msbOf, lsbOf, flagsOf, isAlias, flagsAllowed, kindOfFlags, widthBetween, geometryAllowed, geometriesAllowed, factsBy, ownFacts, syncOf};
 ghost use Rattle.lxt_tables.specs.Stage.{Geometry};
+ghost use Rattle.lxt_tables.specs.Asked.{Sync};
 use lxt_format::Facts;
 use lxt_format::Kind;
 use lxt_sections::be32;
@@ -47,6 +48,14 @@ pub fn is_alias(file: &[u8], geometry: usize, n: u32, f: u32) -> bool
     ensures { λ r. ⌜ r ≡ isAlias (now (file .entry)) f ⌝ }
 {
     flags(file, geometry, n, f) / 8 % 2 == 1
+}
+
+// Where the facility's chain starts.
+pub fn sync_of(file: &[u8], sync: usize, n: u32, f: u32) -> u32
+    requires { ⌜ Sync (now file) sync n × (f < n) ⌝ }
+    ensures { λ r. ⌜ r ≡ syncOf (now (file .entry)) f ⌝ }
+{
+    be32(file, sync + 4 * (f as usize))
 }
 
 // |msb - lsb| + 1. Both are moved up by 2 ^ 31 first, so that no signed number is needed.

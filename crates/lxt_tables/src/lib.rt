@@ -2,6 +2,7 @@
 pub mod aliases; // aliases.rt: refusal 12
 pub mod geometry; // geometry.rt: refusal 11 and facts
 pub mod names; // names.rt: refusal 10
+pub mod times; // times.rt: refusal 13
 
 // What refusals 1 to 14 pass: n, m, C, T, where each table starts, the timescale, the initial symbol
 // and the byte order of reals (all 0 where there is no real facility); or the refusal's number, and
