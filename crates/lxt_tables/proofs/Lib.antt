@@ -3,3 +3,4 @@ pub mod FacilityLaws
 pub mod AliasLaws
 pub mod TimesLaws
 pub mod RootsLaws
+pub mod RealsLaws

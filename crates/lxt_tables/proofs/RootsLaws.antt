@@ -31,10 +31,10 @@ module _ (s : List ℕ) (q : ℕ → Bool) (g n : ℕ) (p : Geometry s g n) wher
       unfolding anyRoot any select
       opened = rw (add-one, range-upto f n h) (on-test (isAlias s f) (λ e. rw e) (λ e. rw e))
 
-      here : (not (isAlias s f) && q f) ≡ true → true ≡ w
+      pub here : (not (isAlias s f) && q f) ≡ true → true ≡ w
       here e = sym (opened ∙ rw e) ∙ inv
 
-      later : (not (isAlias s f) && q f) ≡ false → anyRoot s q (f + 1) n ≡ w
+      pub later : (not (isAlias s f) && q f) ≡ false → anyRoot s q (f + 1) n ≡ w
       later e = sym (opened ∙ rw e) ∙ inv
 
 -- ---- a sync entry is not 0

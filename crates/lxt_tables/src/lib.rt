@@ -2,6 +2,7 @@
 pub mod aliases; // aliases.rt: refusal 12
 pub mod geometry; // geometry.rt: refusal 11 and facts
 pub mod names; // names.rt: refusal 10
+pub mod reals; // reals.rt: refusal 14
 pub mod times; // times.rt: refusal 13
 
 // What refusals 1 to 14 pass: n, m, C, T, where each table starts, the timescale, the initial symbol
