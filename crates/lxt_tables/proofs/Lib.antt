@@ -4,3 +4,4 @@ pub mod AliasLaws
 pub mod TimesLaws
 pub mod RootsLaws
 pub mod RealsLaws
+pub mod SingleLaws

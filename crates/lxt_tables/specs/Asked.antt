@@ -1,5 +1,5 @@
 -- What the functions of this crate ask of the places of the sync table and the time table.
-use Prim.Native.Nat.{ℕ, _+_, _*_, _≤_}
+use Prim.Native.Nat.{ℕ, _+_, _*_, _≤_, _<_}
 use mathlib.Core.Path.{_≡_}
 use mathlib.Core.List.{List}
 use lib.ListN.{length}
@@ -19,3 +19,8 @@ pub record Times (s : List ℕ) (times m end : ℕ) : Type 0 where
   pub low : 4 ≤ end
   pub high : end ≤ length s
   pub inside : times + (12 + 8 * m) ≤ length s
+
+-- where a section of one byte lies; 0 where it is absent
+pub record OneByte (s : List ℕ) (tag at : ℕ) : Type 0 where
+  pub start : at ≡ sectionOf s tag
+  pub inside : (at ≡ 0 → ⊥) → at < length s
