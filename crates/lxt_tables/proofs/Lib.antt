@@ -5,3 +5,4 @@ pub mod TimesLaws
 pub mod RootsLaws
 pub mod RealsLaws
 pub mod SingleLaws
+pub mod WholeLaws

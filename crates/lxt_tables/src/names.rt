@@ -5,8 +5,12 @@ ghost use Prim.Native.Nat.{_+_, _≤_};
 ghost use lib.ListN.{length};
 ghost use lib.Seq.{slice};
 ghost use Rattle.lxt_format.specs.Bytes.{toZero};
-ghost use Rattle.lxt_format.specs.Names.{namesIn, withinMemory};
+ghost use Rattle.lxt_format.specs.Names.{namesIn, withinMemory, namesAllowed};
+ghost use Rattle.lxt_tables.specs.Asked.{Placed};
 use lxt_format::NameCursor;
+use lxt_sections::Sections;
+use lxt_sections::be16;
+use lxt_sections::be32;
 
 // The offset of the first zero from `from` on, or `end`.
 pub fn zero_from(file: &[u8], from: usize, end: usize) -> usize
@@ -35,7 +39,7 @@ pub fn names_allowed(file: &[u8], at: usize, end: usize, n: u32, memory: u32) ->
         if end - p < 2 {
             return false;
         }
-        let prefix = lxt_sections::be16(file, p) as usize;
+        let prefix = be16(file, p) as usize;
         let from = p + 2;
         let zero = zero_from(file, from, end);
         let length = prefix + (zero - from);
@@ -53,4 +57,14 @@ pub fn names_allowed(file: &[u8], at: usize, end: usize, n: u32, memory: u32) ->
         left -= 1;
     }
     true
+}
+
+// Refusal 10. The names follow the head, which holds n and M.
+pub fn name_table_allowed(file: &[u8], p: Sections) -> bool
+    requires { ⌜ Placed (now file) p ⌝ }
+    ensures { λ r. ⌜ r ≡ namesAllowed (now (file .entry)) ⌝ }
+{
+    let head = p.names as usize;
+    let memory = be32(file, head + 4);
+    names_allowed(file, head + 8, p.end, p.facilities, memory)
 }

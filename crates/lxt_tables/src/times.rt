@@ -9,9 +9,10 @@ ghost use Rattle.lxt_format.specs.Bytes.{u32sAt};
 ghost use Rattle.lxt_format.specs.Geometry.{rootsOf, syncOf};
 ghost use Rattle.lxt_format.specs.Times.{sumsFrom, tableAllowed, timesAllowed};
 ghost use Rattle.lxt_tables.specs.Stage.{Geometry};
-ghost use Rattle.lxt_tables.specs.Asked.{Sync, Times};
+ghost use Rattle.lxt_tables.specs.Asked.{Sync, Times, Placed};
 use crate::geometry::is_alias;
 use crate::geometry::sync_of;
+use lxt_sections::Sections;
 use lxt_sections::be32;
 
 // The `m` deltas from `at` on: each after the first is at least 1, and each of their running sums is
@@ -64,4 +65,15 @@ fn any_sync(file: &[u8], geometry: usize, sync: usize, n: u32) -> bool
         f += 1;
     }
     false
+}
+
+// Refusal 13.
+pub fn times_allowed(file: &[u8], p: Sections) -> bool
+    requires { ⌜ Placed (now file) p ⌝ }
+    ensures { λ r. ⌜ r ≡ timesAllowed (now (file .entry)) ⌝ }
+{
+    if p.time_count == 0 {
+        return !any_sync(file, p.geometry as usize, p.sync as usize, p.facilities);
+    }
+    table_allowed(file, p.times as usize, p.time_count, p.end)
 }
