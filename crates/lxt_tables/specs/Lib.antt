@@ -1,1 +1,3 @@
 pub mod Stage
+pub mod Asked
+pub mod Steps

@@ -1,4 +1,11 @@
 // The tables of a trace: names, geometry, aliases, times and the real test: refusals 10 to 14.
+pub mod aliases; // aliases.rt: refusal 12
+pub mod geometry; // geometry.rt: refusal 11 and facts
+pub mod names; // names.rt: refusal 10
+pub mod reals; // reals.rt: refusal 14
+pub mod single; // single.rt: the timescale and the initial symbol
+pub mod times; // times.rt: refusal 13
+pub mod whole; // whole.rt: refusals 1 to 14
 
 // What refusals 1 to 14 pass: n, m, C, T, where each table starts, the timescale, the initial symbol
 // and the byte order of reals (all 0 where there is no real facility); or the refusal's number, and

@@ -1,0 +1,189 @@
+-- The names by their lengths alone, and a law for each way out of the functions on names.
+use Prim.Native.Nat.{ℕ, zero, suc, _+_, _-_, _≤_, _<_}
+use mathlib.Core.Path.{_≡_, refl, sym, _∙_, ap}
+use mathlib.Core.Bool.{Bool, true, false, not, _&&_, and-false}
+use mathlib.Core.List.{List, [], _∷_, _++_}
+use mathlib.Core.Option.{Option, none, some}
+use lib.ListN.{length, take, drop, getD, length-append}
+use lib.Seq.{slice, slice-cons, slice-empty, length-slice, length-take-le, drop-drop, getD-drop, getD-take}
+use lib.Dec.{ltb, leb, eqb, leb·zero}
+use native.Mathlib.Omega.{arith}
+use native.Mathlib.Decide.{decLe}
+use native.Mathlib.Nat.{lt-of-not-le, add-zero}
+use native.Mathlib.Numerals.{add-one}
+use borrow.Author.Tests.{eq-eqb, ne-eqb, lt-ltb, le-ltb, le-leb, lt-leb, leb-true, ltb-true}
+use Rattle.lxt_format.specs.Limits.{longestName}
+use Rattle.lxt_format.specs.Basics.{if_then_else_}
+use Rattle.lxt_format.specs.BasicsLaws.{and-both}
+use Rattle.lxt_format.specs.Bytes.{u16At, toZero}
+use Rattle.lxt_format.specs.BytesLaws.{u16-bytes}
+use Rattle.lxt_format.specs.declared.NameCursor.{NameCursor}
+use Rattle.lxt_format.specs.Names.{named, namesIn, memoryOf, withinMemory}
+
+-- ---- up to a zero: a turn at p, where w is what the whole gives
+
+module _ (s : List ℕ) (p e w : ℕ) (inv : p + toZero (slice p e s) ≡ w) where
+  module _ (l : p < e) (m : e ≤ length s) where
+    pub met : getD s p 0 ≡ 0 → p ≡ w
+    unfolding toZero
+    met h = let q = simp (slice-cons p e s 0 l m, eq-eqb _ _ h) at inv in omega arith
+
+    pub passed : (getD s p 0 ≡ 0 → ⊥) → p + 1 + toZero (slice (p + 1) e s) ≡ w
+    unfolding toZero
+    passed h = let q = simp (slice-cons p e s 0 l m, ne-eqb _ _ h) at inv in rw add-one (omega arith)
+
+  pub at-end : p ≤ e → e ≤ p → p ≡ w
+  unfolding toZero
+  at-end a b = let q : p ≡ e = omega arith in let r = rw (q, slice-empty e s) at inv in omega arith
+
+-- ---- lengths decide
+
+-- the next n names in the bytes bs keep the rules, after a name of l bytes and with m bytes of memory left
+unfoldable pub namesLeft : ℕ → List ℕ → ℕ → ℕ → Bool
+namesLeft zero bs l m = true
+namesLeft (suc n) bs l m =
+    let prefix : ℕ = u16At bs 0 in
+    let rest : List ℕ = drop 2 bs in
+    let size : ℕ = prefix + toZero rest in
+    let more : Bool = namesLeft n (drop (suc (toZero rest)) rest) size (m - (size + 1)) in
+    leb 2 (length bs) && (leb prefix l && (ltb (toZero rest) (length rest) && (leb size longestName && (leb (size + 1) m && more))))
+
+-- one name more, and the memory
+one-more : (m : ℕ) (name : List ℕ) (o : Option (List (List ℕ)))
+    → (leb (length name + 1) m && withinMemory (m - (length name + 1)) o) ≡ withinMemory m (named name o)
+unfolding memoryOf
+one-more m name none = simp and-false
+one-more m name (some ns) =
+    elim (decLe (length name + 1) m) [
+      | yes h ↦ elim (decLe (memoryOf ns) (m - (length name + 1))) [
+        | yes g ↦ (let q : length name + 1 + memoryOf ns ≤ m = omega arith in simp (le-leb _ _ h, le-leb _ _ g, le-leb _ _ q))
+        | no g ↦ (let f = lt-of-not-le g in let q : m < length name + 1 + memoryOf ns = omega arith in simp (le-leb _ _ h, lt-leb _ _ f, lt-leb _ _ q))
+      ]
+      | no h ↦ (let f = lt-of-not-le h in let q : m < length name + 1 + memoryOf ns = omega arith in simp (lt-leb _ _ f, lt-leb _ _ q))
+    ]
+
+-- the lengths give what the names give
+pub by-lengths : (n : ℕ) (bs before : List ℕ) (m : ℕ) → namesLeft n bs (length before) m ≡ withinMemory m (namesIn n bs before)
+unfolding namesLeft namesIn memoryOf
+by-lengths zero bs before m = simp (leb·zero m)
+by-lengths (suc n) bs before m =
+    let k : ℕ = u16At bs 0 in
+    let rest : List ℕ = drop 2 bs in
+    let z : ℕ = toZero rest in
+    let name : List ℕ = take k before ++ take z rest in
+    let ih = by-lengths n (drop (suc z) rest) name (m - (length name + 1)) in
+    elim (decLe 2 (length bs)) [
+      | no a ↦ simp (lt-leb _ _ (lt-of-not-le a))
+      | yes a ↦ elim (decLe k (length before)) [
+        | no b ↦ simp (le-leb _ _ a, lt-leb _ _ (lt-of-not-le b))
+        | yes b ↦ elim (decLe (suc z) (length rest)) [
+          | no c ↦ simp (le-leb _ _ a, le-leb _ _ b, lt-leb _ _ (lt-of-not-le c))
+          | yes c ↦ (
+              let zl : z ≤ length rest = omega arith in
+              let len : length name ≡ k + z = simp (length-append, length-take-le k before b, length-take-le z rest zl) in
+              elim (decLe (k + z) 1023) [
+                | no d ↦ (let f = lt-of-not-le d in let g : 1023 < length name = omega arith in simp (le-leb _ _ a, le-leb _ _ b, le-leb _ _ c, lt-leb _ _ f, lt-leb _ _ g))
+                | yes d ↦ (let g : length name ≤ 1023 = omega arith in
+                    simp (le-leb _ _ a, le-leb _ _ b, le-leb _ _ c, le-leb _ _ d, le-leb _ _ g)
+                    (rw (← len) (ap (λ (x : Bool). leb (length name + 1) m && x) ih ∙ one-more m name (namesIn n (drop (suc z) rest) name))))
+              ]
+              )
+        ]
+      ]
+    ]
+
+four-and : (a b c d r : Bool) → (a && (b && (c && (d && r)))) ≡ ((a && (b && (c && d))) && r)
+four-and true true true true r = refl
+four-and true true true false r = refl
+four-and true true false d r = refl
+four-and true false c d r = refl
+four-and false b c d r = refl
+
+shifted : (z T k : ℕ) → k ≤ z → ltb (z - k) (T - k) ≡ ltb z T
+shifted z T k h =
+    elim (decLe T z) [
+      | yes l ↦ (let g : T - k ≤ z - k = omega arith in simp (le-ltb _ _ l, le-ltb _ _ g))
+      | no n ↦ (let l : z < T = omega arith in let g : z - k < T - k = omega arith in simp (lt-ltb _ _ l, lt-ltb _ _ g))
+    ]
+
+-- ---- a turn of the loop over names, at offsets of the file: T is the offset of END, p that of the next name, n how many are left, l the
+-- length of the name before and m the memory that is left; w is what the whole gives
+
+module _ (s : List ℕ) (T : ℕ) (t : T ≤ length s) where
+  head16 : (p : ℕ) → p + 2 ≤ T → u16At (slice p T s) 0 ≡ u16At s p
+  head16 p h =
+      let a : p < T = omega arith in
+      let b : p + 1 < T = omega arith in
+      simp (u16-bytes, getD-drop p (take T s) 0 0, getD-drop p (take T s) 1 0, add-zero, getD-take T s p 0 a, getD-take T s (p + 1) 0 b)
+
+  opened : (n p l m : ℕ) → 0 < n → p + 2 ≤ T → namesLeft n (slice p T s) l m
+      ≡ (let k : ℕ = u16At s p in
+      let y : ℕ = toZero (slice (p + 2) T s) in
+      leb k l && (ltb y (T - (p + 2)) && (leb (k + y) 1023 && (leb (k + y + 1) m && namesLeft (n - 1) (slice (p + 2 + suc y) T s) (k + y) (m - (k + y + 1))))))
+  unfolding namesLeft
+  opened zero p l m h room = absurd (omega arith)
+  opened (suc n) p l m h room =
+      let e : suc n - 1 ≡ n = omega arith in
+      let two : 2 ≤ T - p = omega arith in
+      simp (head16 p room, drop-drop 2 p (take T s), drop-drop (suc (toZero (slice (p + 2) T s))) (p + 2) (take T s), length-slice p T s t, length-slice (p + 2) T s t, le-leb _ _ two, e)
+
+  cut-off : (n p l m : ℕ) → 0 < n → T - p < 2 → namesLeft n (slice p T s) l m ≡ false
+  unfolding namesLeft
+  cut-off zero p l m h few = absurd (omega arith)
+  cut-off (suc n) p l m h few = simp (length-slice p T s t, lt-leb _ _ few)
+
+  module _ (n p l m : ℕ) (w : Bool) (inv : namesLeft n (slice p T s) l m ≡ w) (pos : 0 < n) where
+    pub short : T - p < 2 → false ≡ w
+    short few = sym (cut-off n p l m pos few) ∙ inv
+
+    -- v is what the prefix bytes say, z the offset of the first zero, b whether the name is short enough
+    module _ (two : 2 ≤ T - p) (v : ℕ) (ev : v ≡ u16At s p) (z : ℕ) (ez : z ≡ p + 2 + toZero (slice (p + 2) T s)) (zT : z ≤ T) (b : Bool)
+        (eb : b ≡ leb (v + (z - (p + 2))) longestName) where
+      abbrev size : ℕ
+      size = v + (z - (p + 2))
+
+      -- the tests of the next name, as the code makes them
+      abbrev tests : Bool
+      tests = leb v l && (ltb z T && (b && leb (size + 1) m))
+
+      tested : namesLeft n (slice p T s) l m ≡ (tests && namesLeft (n - 1) (slice (z + 1) T s) size (m - (size + 1)))
+      tested =
+          let ek : u16At s p ≡ v = sym ev in
+          let ey : toZero (slice (p + 2) T s) ≡ z - (p + 2) = omega arith in
+          let e1 : p + 2 + suc (z - (p + 2)) ≡ z + 1 = omega arith in
+          let el : leb (v + (z - (p + 2))) 1023 ≡ b = sym eb in
+          (simp (ek, ey, e1, shifted z T (p + 2) (omega arith), el) at (opened n p l m pos (omega arith)))
+          ∙ four-and (leb v l) (ltb z T) b (leb (size + 1) m) (namesLeft (n - 1) (slice (z + 1) T s) size (m - (size + 1)))
+
+      pub broken : tests ≡ false → false ≡ w
+      broken h = sym (rw h at tested) ∙ inv
+
+      module _ (h : tests ≡ true) where
+        kept : (v ≤ l) × ((z < T) × ((size ≤ 1023) × (size + 1 ≤ m)))
+        kept =
+            let q = and-both (leb v l) (ltb z T && (b && leb (size + 1) m)) h in
+            let r = and-both (ltb z T) (b && leb (size + 1) m) (q .1) in
+            let f = and-both b (leb (size + 1) m) (r .1) in
+            (leb-true _ _ (q .0), (ltb-true _ _ (r .0), (leb-true _ _ (sym eb ∙ f .0), leb-true _ _ (f .1))))
+
+        pub memory-left : size + 1 ≤ m
+        memory-left = kept .1 .1 .1
+
+        pub within : z + 1 ≤ T
+        within = omega (arith, kept .1 .0)
+
+        pub next : namesLeft (n - 1) (slice (z + 1) T s) size (m - (size + 1)) ≡ w
+        next = sym (rw h at tested) ∙ inv
+
+pub all-read : (s : List ℕ) (T n p l m : ℕ) (w : Bool) → namesLeft n (slice p T s) l m ≡ w → n ≤ 0 → true ≡ w
+unfolding namesLeft
+all-read s T zero p l m w inv h = inv
+all-read s T (suc n) p l m w inv h = absurd (omega arith)
+
+-- before the first name
+module _ (s : List ℕ) (at T n m : ℕ) (c : NameCursor) (e : c ≡ record { at = at; before = 0; memory = m }) where
+  pub first-within : at ≤ T → c .at ≤ T
+  first-within h = rw e h
+
+  pub first : namesLeft n (slice (c .at) T s) (c .before) (c .memory) ≡ withinMemory m (namesIn n (slice at T s) [])
+  first = rw e (by-lengths n (slice at T s) [] m)

@@ -1,0 +1,45 @@
+-- What the functions answer that join the checks.
+use Prim.Native.Nat.{ℕ}
+use mathlib.Core.Bool.{Bool, true, false}
+use mathlib.Core.List.{List, [], _∷_}
+use lib.ListN.{replicate}
+use Rattle.lxt_format.specs.Basics.{if_then_else_, _unless_, _orElse_}
+use Rattle.lxt_format.specs.Sections.{sectionOf, endOf, changesFrom, facilityCount, timeCount, timescaleOf, initialOf}
+use Rattle.lxt_format.specs.Names.{namesAllowed}
+use Rattle.lxt_format.specs.Geometry.{geometriesAllowed, aliasesAllowed}
+use Rattle.lxt_format.specs.Times.{timesAllowed}
+use Rattle.lxt_format.specs.Reals.{hasReal, byteOrder, realTestAllowed}
+use Rattle.lxt_tables.specs.Stage.{refusedTables}
+use Rattle.lxt_tables.specs.declared.Tables.{Tables}
+
+-- refusals 10 to 13
+unfoldable pub middleRefusal : List ℕ → ℕ
+middleRefusal s =
+    10 unless namesAllowed s
+    orElse 11 unless geometriesAllowed s
+    orElse 12 unless aliasesAllowed s
+    orElse 13 unless timesAllowed s
+
+-- what passes, with the byte order of reals
+unfoldable pub passedTables : List ℕ → List ℕ → Tables
+passedTables s order =
+    record {
+      refusal = 0;
+      facilities = facilityCount s;
+      «time_count» = timeCount s;
+      end = endOf s;
+      changes = changesFrom s;
+      sync = sectionOf s 0x02;
+      names = sectionOf s 0x03;
+      geometry = sectionOf s 0x04;
+      times = sectionOf s 0x06;
+      timescale = timescaleOf s;
+      initial = initialOf s;
+      order = order;
+    }
+
+-- refusal 14, or what passes
+unfoldable pub lastTables : List ℕ → Tables
+lastTables s =
+    if realTestAllowed s then passedTables s (if hasReal s then byteOrder s else replicate 8 0)
+    else refusedTables 14
