@@ -1,1 +1,3 @@
 pub mod PendingLaws
+pub mod ChainLaws
+pub mod ApartLaws

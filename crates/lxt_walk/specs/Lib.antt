@@ -7,6 +7,7 @@ pub mod Handed
 pub mod Bridge
 pub mod Check17
 pub mod Accepted
+pub mod Reading
 pub mod Wider
 pub mod Roots
 pub mod Full
