@@ -6,3 +6,4 @@ pub mod RootsLaws
 pub mod RealsLaws
 pub mod SingleLaws
 pub mod WholeLaws
+pub mod TablesLaws

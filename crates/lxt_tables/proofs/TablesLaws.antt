@@ -1,0 +1,123 @@
+-- What a file keeps whose tables were read without a refusal, as facts that the crates above cite.
+use Prim.Native.Nat.{ℕ, _+_, _*_, _≤_, _<_}
+use mathlib.Core.Path.{_≡_, refl, sym, _∙_, ap}
+use mathlib.Core.Bool.{Bool, true, false}
+use mathlib.Core.List.{List, [], _∷_}
+use lib.ListN.{length, replicate}
+use lib.Dec.{eqb, lit≤}
+use native.Mathlib.Omega.{arith}
+use native.Mathlib.Decide.{ℕ-discrete}
+use borrow.Author.Tests.{ne-eqb}
+use Rattle.lxt_format.specs.Limits.{widestFacility}
+use Rattle.lxt_format.specs.Basics.{if_then_else_, range, all}
+use Rattle.lxt_format.specs.BasicsLaws.{all-range}
+use Rattle.lxt_format.specs.Sections.{sectionOf, endOf, changesFrom, facilityCount, timeCount, timescaleOf, initialOf}
+use Rattle.lxt_format.specs.Geometry.{isAlias, geometryAllowed, geometriesAllowed, rootOf, flagsOf, kindOfFlags, factsBy, msbOf, lsbOf, ownFacts}
+use Rattle.lxt_format.specs.GeometryLaws.{root-below, root-no-alias}
+use Rattle.lxt_format.specs.Reals.{hasReal, byteOrder}
+use Rattle.lxt_format.specs.Judge.{tablesRefusal}
+use Rattle.lxt_format.specs.JudgeLaws.{Passed, passed, passed-located, passed-length, passed-count}
+use Rattle.lxt_format.specs.declared.Kind.{Kind}
+use Rattle.lxt_format.specs.declared.Kind.the-variants.{Bits, Integer, Real, Text}
+use Rattle.lxt_tables.specs.Stage.{Geometry, refusedTables, tablesOf}
+use Rattle.lxt_tables.specs.Asked.{Sync, Times}
+use Rattle.lxt_tables.specs.declared.Tables.{Tables}
+use Rattle.lxt_tables.proofs.FacilityLaws.{width-fits}
+
+-- the tables of a file that refusals 1 to 14 pass
+pub record Known (s : List ℕ) (t : Tables) : Type 0 where
+  pub refusal : tablesRefusal s ≡ 0
+  pub passed : Passed s
+  pub facilities : t .facilities ≡ facilityCount s
+  pub time-count : t .«time_count» ≡ timeCount s
+  pub end : t .end ≡ endOf s
+  pub changes : t .changes ≡ changesFrom s
+  pub sync : t .sync ≡ sectionOf s 0x02
+  pub names : t .names ≡ sectionOf s 0x03
+  pub geometry : t .geometry ≡ sectionOf s 0x04
+  pub times : t .times ≡ sectionOf s 0x06
+  pub timescale : t .timescale ≡ timescaleOf s
+  pub initial : t .initial ≡ initialOf s
+  pub order : t .order ≡ (if hasReal s then byteOrder s else replicate 8 0)
+  pub few : t .facilities ≤ 4096
+  pub long : length s ≤ 16777216
+  pub end-low : 4 ≤ t .end
+  pub end-high : t .end + 2 ≤ length s
+  pub changes-low : 4 ≤ t .changes
+  pub changes-high : t .changes ≤ t .end
+  pub names-high : t .names + 8 ≤ t .end
+  pub geometry-at : Geometry s (t .geometry) (t .facilities)
+  pub sync-at : Sync s (t .sync) (t .facilities)
+  pub times-at : Times s (t .times) (t .«time_count») (t .end)
+
+module _ (s : List ℕ) (t : Tables) (e : t ≡ tablesOf s) where
+  -- the number, 0 where nothing is refused
+  pub refusal-is : t .refusal ≡ tablesRefusal s
+  unfolding tablesOf
+  refusal-is = rw e (elim (ℕ-discrete (tablesRefusal s) 0) [ yes z ↦ rw z | no n ↦ simp (ne-eqb (tablesRefusal s) 0 n) ])
+
+  -- a refusal answers its number only
+  pub refused-is : (t .refusal ≡ 0 → ⊥) → t ≡ refusedTables (tablesRefusal s)
+  unfolding tablesOf
+  refused-is n = let m : tablesRefusal s ≡ 0 → ⊥ = λ z. n (refusal-is ∙ z) in e ∙ simp (ne-eqb (tablesRefusal s) 0 m)
+
+  pub known : t .refusal ≡ 0 → Known s t
+  unfolding tablesOf
+  known h =
+      let z : tablesRefusal s ≡ 0 = sym refusal-is ∙ h in
+      let p = passed s z in
+      let l = passed-located s p in
+      let long = passed-length s p in
+      rw (e, z) record {
+        refusal = z;
+        passed = p;
+        facilities = refl;
+        time-count = refl;
+        end = refl;
+        changes = refl;
+        sync = refl;
+        names = refl;
+        geometry = refl;
+        times = refl;
+        timescale = refl;
+        initial = refl;
+        order = refl;
+        few = passed-count s p;
+        long = long .1;
+        end-low = l .end-low;
+        end-high = l .end-high;
+        changes-low = l .changes-low;
+        changes-high = l .changes-high;
+        names-high = l .names-high;
+        geometry-at = record { start = refl; count = refl; inside = omega (arith, l) };
+        sync-at = record { start = refl; count = refl; inside = omega (arith, l) };
+        times-at = record { start = refl; count = refl; limit = refl; low = l .end-low; high = omega (arith, l); inside = omega (arith, l) };
+      }
+
+-- ---- facilities
+
+module _ (s : List ℕ) (p : Passed s) (f : ℕ) (h : f < facilityCount s) where
+  -- each entry keeps the rules of refusal 11
+  pub entry-allowed : geometryAllowed s f ≡ true
+  unfolding geometriesAllowed
+  entry-allowed = all-range (geometryAllowed s) 0 (facilityCount s) (p .geometries) f (omega arith) (omega arith)
+
+  -- each facility has a root
+  pub root-in : rootOf s f < facilityCount s
+  root-in = root-below s (p .aliases) f h
+
+  pub root-plain : isAlias s (rootOf s f) ≡ false
+  root-plain = root-no-alias s f root-in
+
+-- a root is no wider than a facility may be
+module _ (s : List ℕ) (f : ℕ) (allowed : geometryAllowed s f ≡ true) (plain : isAlias s f ≡ false) where
+  narrow : (k : Kind) → kindOfFlags (flagsOf s f) ≡ k → factsBy k (msbOf s f) (lsbOf s f) .width ≤ widestFacility
+  unfolding factsBy
+  narrow Bits e = width-fits s f (flagsOf s f) refl Bits (sym e) refl (msbOf s f) refl (lsbOf s f) refl allowed plain
+  narrow Integer e = lit≤ tt
+  narrow Real e = lit≤ tt
+  narrow Text e = lit≤ tt
+
+  pub width-most : ownFacts s f .width ≤ widestFacility
+  unfolding ownFacts
+  width-most = narrow (kindOfFlags (flagsOf s f)) refl
