@@ -1,0 +1,19 @@
+-- The answers of the C functions: 0 or the refusal's number, and the numbers of an answer.
+use Prim.Native.Nat.{ℕ}
+use mathlib.Core.List.{List, [], _∷_}
+use lib.IntN.{ℤ}
+use Rattle.lxt_format.specs.Basics.{Answer, given, refused}
+use Rattle.lxt_format.specs.declared.Summary.{Summary}
+
+unfoldable pub numberOf : {A : Type 0} → Answer A → ℕ
+numberOf (given a) = 0
+numberOf (refused k) = k
+
+-- n, C, T and the initial symbol's code; what was there where judging refused
+unfoldable pub judgeNumbers : Answer Summary → List ℕ → List ℕ
+judgeNumbers (given a) before = a .facilities ∷ a .changes ∷ a .end ∷ a .initial ∷ []
+judgeNumbers (refused k) before = before
+
+unfoldable pub judgeTimescale : Answer Summary → ℤ → ℤ
+judgeTimescale (given a) before = a .timescale
+judgeTimescale (refused k) before = before
