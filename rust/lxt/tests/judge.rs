@@ -1,0 +1,112 @@
+//! The proved judge against the independent reader, answer by answer.
+
+use std::collections::BTreeMap;
+use std::fs;
+use std::path::Path;
+
+/// The small trace of paper 01, 95 bytes.
+const TRACE: [u8; 95] = [
+    0x01, 0x38, 0x00, 0x04, 0x04, 0x02, 0x03, 0x00, 0x00, 0x00, 0x00, 0x01, 0x00, 0x00, 0x00, 0x02,
+    0x00, 0x00, 0x61, 0x00, 0x00, 0x00, 0x00, 0x00, 0x00, 0x00, 0x00, 0x00, 0x00, 0x00, 0x00, 0x00,
+    0x00, 0x00, 0x00, 0x00, 0x00, 0x00, 0x00, 0x06, 0x00, 0x00, 0x00, 0x02, 0x00, 0x00, 0x00, 0x00,
+    0x00, 0x00, 0x00, 0x05, 0x00, 0x00, 0x00, 0x04, 0x00, 0x00, 0x00, 0x02, 0x00, 0x00, 0x00, 0x00,
+    0x00, 0x00, 0x00, 0x05, 0x00, 0x00, 0x00, 0x00, 0x04, 0x01, 0x00, 0x00, 0x00, 0x24, 0x02, 0x00,
+    0x00, 0x00, 0x08, 0x03, 0x00, 0x00, 0x00, 0x14, 0x04, 0x00, 0x00, 0x00, 0x28, 0x06, 0xB4,
+];
+
+/// Judges a file both ways and counts the answer: 0 for an accepted file.
+fn compare(file: &[u8], what: &str, seen: &mut BTreeMap<u8, u32>) {
+    let proved = lxt::judge(file).map_err(|refusal| refusal.number());
+    let expected = lxt_reference::judge(file).map(|summary| lxt::Summary {
+        facilities: summary.facilities,
+        changes: summary.changes,
+        end: summary.end,
+        timescale: summary.timescale,
+        initial: summary.initial,
+    });
+    assert_eq!(proved, expected, "{what}");
+    *seen.entry(expected.err().unwrap_or(0)).or_default() += 1;
+}
+
+#[test]
+fn every_one_byte_change_of_the_small_trace() {
+    let mut seen = BTreeMap::new();
+    for at in 0..TRACE.len() {
+        for value in 0..=255 {
+            let mut file = TRACE;
+            file[at] = value;
+            compare(&file, &format!("byte {at} is {value}"), &mut seen);
+        }
+    }
+    println!("{seen:?}");
+    assert!(seen.len() > 10, "{seen:?}");
+}
+
+#[test]
+fn every_shortening_and_lengthening_of_the_small_trace() {
+    let mut seen = BTreeMap::new();
+    for length in 0..TRACE.len() {
+        compare(
+            &TRACE[..length],
+            &format!("first {length} bytes"),
+            &mut seen,
+        );
+        compare(&TRACE[length..], &format!("from byte {length}"), &mut seen);
+        let mut without = TRACE.to_vec();
+        without.remove(length);
+        compare(&without, &format!("without byte {length}"), &mut seen);
+    }
+    for at in 0..=TRACE.len() {
+        for value in [0x00, 0x01, 0x04, 0x08, 0x0A, 0x40, 0xB4, 0xFF] {
+            let mut with = TRACE.to_vec();
+            with.insert(at, value);
+            compare(&with, &format!("{value} put in at {at}"), &mut seen);
+        }
+    }
+    println!("{seen:?}");
+}
+
+#[test]
+fn all_traces_of_the_folder() {
+    let folder = Path::new(env!("CARGO_MANIFEST_DIR")).join("../../traces");
+    let mut seen = BTreeMap::new();
+    for entry in fs::read_dir(folder).expect("the folder of traces") {
+        let path = entry.expect("an entry of the folder").path();
+        if path.extension().is_some_and(|extension| extension == "lxt") {
+            let file = fs::read(&path).expect("a trace");
+            compare(&file, &path.display().to_string(), &mut seen);
+        }
+    }
+    println!("{seen:?}");
+    assert!(seen[&0] >= 20, "{seen:?}");
+}
+
+#[test]
+fn generated_files_reach_every_refusal_of_a_file() {
+    let mut seen = BTreeMap::new();
+    for seed in 0..20_000 {
+        let case = lxt_generate::case(seed);
+        compare(
+            &case.bytes,
+            &format!("seed {seed}, {}", case.origin),
+            &mut seen,
+        );
+    }
+    println!("{seen:?}");
+    for number in 0..=17 {
+        let least = if number == 9 { 1 } else { 50 };
+        assert!(
+            seen.get(&number).is_some_and(|count| *count >= least),
+            "{number}: {seen:?}"
+        );
+    }
+}
+
+#[test]
+fn hostile_files_are_judged_alike() {
+    let mut seen = BTreeMap::new();
+    for case in lxt_generate::hostile() {
+        compare(&case.bytes, &case.origin, &mut seen);
+    }
+    println!("{seen:?}");
+}
