@@ -110,6 +110,15 @@ module _ (s : List ℕ) (p : Passed s) (f : ℕ) (h : f < facilityCount s) where
   pub root-plain : isAlias s (rootOf s f) ≡ false
   root-plain = root-no-alias s f root-in
 
+-- what is asked before the facts of a facility's root are read
+module _ (s : List ℕ) (t : Tables) (k : Known s t) (f : ℕ) (l : f < t .facilities) (r : ℕ) (e : r ≡ rootOf s f) where
+  pub root-asked : (Geometry s (t .geometry) (t .facilities) × (r < t .facilities)) × ((geometryAllowed s r ≡ true) × (isAlias s r ≡ false))
+  root-asked =
+      let p = k .passed in
+      let g : f < facilityCount s = rw (← k .facilities) l in
+      let h = root-in s p f g in
+      rw e ((k .geometry-at, rw (k .facilities) h), (entry-allowed s p (rootOf s f) h, root-plain s p f g))
+
 -- a root is no wider than a facility may be
 module _ (s : List ℕ) (f : ℕ) (allowed : geometryAllowed s f ≡ true) (plain : isAlias s f ≡ false) where
   narrow : (k : Kind) → kindOfFlags (flagsOf s f) ≡ k → factsBy k (msbOf s f) (lsbOf s f) .width ≤ widestFacility
