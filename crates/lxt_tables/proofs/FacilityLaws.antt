@@ -1,24 +1,22 @@
 -- A law for each way out of the functions on the geometry.
-use Prim.Native.Nat.{ℕ, zero, suc, _+_, _*_, _-_, _/_, _%_, _≤_, _<_, _^_}
-use mathlib.Core.Path.{_≡_, refl, sym, _∙_, ap}
+use Prim.Native.Nat.{ℕ, zero, suc, _+_, _*_, _-_, _/_, _%_, _≤_, _<_}
+use mathlib.Core.Path.{_≡_, refl, sym, _∙_}
 use mathlib.Core.Bool.{Bool, true, false, not, _&&_, _||_, false≢true}
-use mathlib.Core.List.{List, [], _∷_}
-use lib.ListN.{length}
+use mathlib.Core.List.{List}
 use lib.IntN.{ℤ, pos, negsuc, natAbs, subℕ, _-ℤ_}
-use lib.Dec.{ltb, leb, eqb}
+use lib.Dec.{leb, eqb}
 use native.Mathlib.Omega.{arith}
 use native.Mathlib.Numerals.{add-one}
 use native.Mathlib.Decide.{decLe}
 use native.Mathlib.Nat.{lt-of-not-le}
-use borrow.Author.Tests.{lt-ltb, le-ltb, le-leb, lt-leb, leb-true, not-true, eqb-true, eq-eqb, ne-eqb}
+use borrow.Author.Tests.{lt-ltb, le-ltb, leb-true, not-true, eqb-true, ne-eqb}
 use mir.Syntax.{w32}
 use mir.Val.{SFits, toZ, ofZ}
 use mir.ValLaws.{toZ-ofZ}
 use Rattle.lxt_format.specs.Limits.{widestFacility}
-use Rattle.lxt_format.specs.Basics.{if_then_else_, range, all}
-use Rattle.lxt_format.specs.BasicsLaws.{and-both, or-either, on-test, all-turn, all-stop, all-end}
+use Rattle.lxt_format.specs.Basics.{range, all}
+use Rattle.lxt_format.specs.BasicsLaws.{and-both, or-either, all-turn, all-stop, all-end}
 use Rattle.lxt_format.specs.Bytes.{u32At, signed}
-use Rattle.lxt_format.specs.Sections.{sectionOf, facilityCount}
 use Rattle.lxt_format.specs.Geometry.{rowsOf, msbOf, lsbOf, flagsOf, isAlias, flagsAllowed, kindOfFlags, widthBetween, geometryAllowed, geometriesAllowed, factsBy, ownFacts, syncOf}
 use Rattle.lxt_format.specs.declared.Kind.{Kind}
 use Rattle.lxt_format.specs.declared.Kind.the-variants.{Bits, Integer, Real, Text}

@@ -1,20 +1,17 @@
 -- A law for each way out of the functions on the real test.
-use Prim.Native.Nat.{ℕ, zero, suc, _+_, _-_, _≤_, _<_}
-use mathlib.Core.Path.{_≡_, refl, sym, _∙_, ap}
-use mathlib.Core.Bool.{Bool, true, false, not, _&&_, and-false}
+use Prim.Native.Nat.{ℕ, suc, _+_, _-_, _≤_, _<_}
+use mathlib.Core.Path.{_≡_}
+use mathlib.Core.Bool.{Bool, true, false, and-false}
 use mathlib.Core.List.{List, [], _∷_, map}
 use lib.ListN.{length, getD, take, drop}
 use lib.Seq.{drop-cons}
-use lib.Dec.{ltb, eqb}
+use lib.Dec.{eqb}
 use native.Mathlib.Omega.{arith}
-use native.Mathlib.Numerals.{add-one}
 use borrow.Author.Tests.{eq-eqb, ne-eqb, eqb-true}
-use Rattle.lxt_format.specs.Basics.{if_then_else_, range, all, any}
+use Rattle.lxt_format.specs.Basics.{if_then_else_}
 use Rattle.lxt_format.specs.BasicsLaws.{on-test}
-use Rattle.lxt_format.specs.Geometry.{flagsOf, isAlias, kindOfFlags, factsBy, ownFacts, rootsOf}
-use Rattle.lxt_format.specs.Reals.{testPattern, placeOf, testBytes, isReordering, byteOrder, isReal, hasReal}
-use Rattle.lxt_format.specs.declared.Kind.{Kind}
-use Rattle.lxt_format.specs.declared.Kind.the-variants.{Bits, Integer, Real, Text}
+use Rattle.lxt_format.specs.Geometry.{flagsOf, isAlias, kindOfFlags, factsBy, ownFacts}
+use Rattle.lxt_format.specs.Reals.{testPattern, placeOf, isReal, hasReal}
 use Rattle.lxt_tables.specs.Stage.{Geometry}
 use Rattle.lxt_tables.proofs.RootsLaws.{anyRoot, any-begun, any-end, here, later}
 

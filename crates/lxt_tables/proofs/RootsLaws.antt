@@ -1,14 +1,13 @@
 -- A loop over the facilities that asks whether a test holds of a root: what is left of it, and a law for each way out.
-use Prim.Native.Nat.{ℕ, zero, suc, _+_, _-_, _≤_, _<_}
-use mathlib.Core.Path.{_≡_, refl, sym, _∙_, ap}
+use Prim.Native.Nat.{ℕ, _+_, _-_, _≤_, _<_}
+use mathlib.Core.Path.{_≡_, sym, _∙_}
 use mathlib.Core.Bool.{Bool, true, false, not, _&&_, _||_}
-use mathlib.Core.List.{List, [], _∷_}
+use mathlib.Core.List.{List}
 use lib.Dec.{eqb}
 use native.Mathlib.Omega.{arith}
 use native.Mathlib.Numerals.{add-one}
-use Rattle.lxt_format.specs.Basics.{if_then_else_, range, any, select}
+use Rattle.lxt_format.specs.Basics.{range, any, select}
 use Rattle.lxt_format.specs.BasicsLaws.{on-test, range-upto, range-done}
-use Rattle.lxt_format.specs.Sections.{facilityCount}
 use Rattle.lxt_format.specs.Geometry.{isAlias, rootsOf, syncOf}
 use Rattle.lxt_tables.specs.Stage.{Geometry}
 

@@ -1,16 +1,14 @@
 -- A law for each way out of the functions on the sections of one byte.
-use Prim.Native.Nat.{ℕ, zero, suc, _+_, _-_, _≤_, _<_}
-use mathlib.Core.Path.{_≡_, refl, sym, _∙_, ap}
-use mathlib.Core.Bool.{Bool, true, false, not, _&&_}
+use Prim.Native.Nat.{ℕ, suc, _+_, _-_, _≤_, _<_}
+use mathlib.Core.Path.{_≡_, sym, _∙_}
 use mathlib.Core.List.{List}
 use lib.ListN.{length}
-use lib.IntN.{ℤ, pos, negsuc}
-use lib.Dec.{ltb, leb, eqb}
+use lib.IntN.{ℤ, negsuc}
 use native.Mathlib.Omega.{arith}
 use native.Mathlib.Decide.{decLe}
 use mir.Syntax.{w8}
 use mir.Val.{toZ}
-use borrow.Author.Tests.{lt-ltb, le-ltb, le-leb, lt-leb, eq-eqb, ne-eqb}
+use borrow.Author.Tests.{lt-ltb, le-ltb, le-leb, lt-leb, ne-eqb}
 use Rattle.lxt_format.specs.Basics.{if_then_else_}
 use Rattle.lxt_format.specs.Bytes.{byteAt, signed}
 use Rattle.lxt_format.specs.Sections.{sectionOf, present, timescaleAllowed, timescaleOf, initialOf}

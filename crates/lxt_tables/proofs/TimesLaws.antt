@@ -1,23 +1,19 @@
 -- The running sums, and a law for each way out of the functions on times.
-use Prim.Native.Nat.{ℕ, zero, suc, _+_, _*_, _-_, _≤_, _<_}
+use Prim.Native.Nat.{ℕ, suc, _+_, _*_, _-_, _≤_, _<_}
 use mathlib.Core.Path.{_≡_, refl, sym, _∙_, ap}
-use mathlib.Core.Bool.{Bool, true, false, not, _&&_, _||_, and-false}
+use mathlib.Core.Bool.{Bool, true, false, _&&_, and-false}
 use mathlib.Core.List.{List, [], _∷_}
 use lib.ListN.{length, getD, drop}
-use lib.Dec.{ltb, leb, eqb, leb·zero}
+use lib.Dec.{ltb, leb, leb·zero}
 use native.Mathlib.Omega.{arith}
-use native.Mathlib.Numerals.{add-one}
 use native.Mathlib.Decide.{decLe}
 use borrow.Author.Tests.{lt-ltb, le-ltb, le-leb, lt-leb, leb-true}
-use Rattle.lxt_format.specs.Basics.{if_then_else_, range, all, any, select}
-use Rattle.lxt_format.specs.BasicsLaws.{and-both, on-test, range-upto, range-done}
+use Rattle.lxt_format.specs.Basics.{all}
+use Rattle.lxt_format.specs.BasicsLaws.{and-both, on-test}
 use Rattle.lxt_format.specs.Bytes.{u32At, u32sAt}
 use Rattle.lxt_format.specs.BytesLaws.{length-u32s}
-use Rattle.lxt_format.specs.Sections.{sectionOf, endOf, facilityCount, timeCount}
-use Rattle.lxt_format.specs.Geometry.{isAlias, rootsOf, syncOf}
-use Rattle.lxt_format.specs.Times.{firstTime, lastTime, positionDeltas, timeDeltas, sumsFrom, positionsOf, timesOf, tableAllowed, timesAllowed}
-use Rattle.lxt_tables.specs.Stage.{Geometry}
-use Rattle.lxt_tables.specs.Asked.{Sync, Times}
+use Rattle.lxt_format.specs.Times.{firstTime, lastTime, positionDeltas, timeDeltas, sumsFrom, positionsOf, timesOf, tableAllowed}
+use Rattle.lxt_tables.specs.Asked.{Times}
 
 -- ---- running sums
 

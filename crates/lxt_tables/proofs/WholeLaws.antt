@@ -1,8 +1,8 @@
 -- The places of a file that refusals 1 to 9 pass, and a law for each way out of the functions that join the checks.
-use Prim.Native.Nat.{ℕ, zero, suc, _+_, _*_, _≤_, _<_}
+use Prim.Native.Nat.{ℕ, _+_, _≤_, _<_}
 use mathlib.Core.Path.{_≡_, refl, sym, _∙_, ap}
-use mathlib.Core.Bool.{Bool, true, false, not, _&&_, _||_, and-false, false≢true}
-use mathlib.Core.List.{List, [], _∷_, map}
+use mathlib.Core.Bool.{Bool, true, false, not, and-false}
+use mathlib.Core.List.{List, [], map}
 use lib.ListN.{length, getD, take, drop, replicate}
 use lib.Seq.{slice}
 use lib.IntN.{ℤ}
@@ -12,21 +12,21 @@ use native.Mathlib.Decide.{ℕ-discrete}
 use mir.Syntax.{w8}
 use mir.Val.{SFits, toZ, ofZ}
 use mir.ValLaws.{toZ-ofZ}
-use borrow.Author.Tests.{eq-eqb, ne-eqb, leb-true, eqb-true}
-use Rattle.lxt_format.specs.Basics.{if_then_else_, _unless_, _orElse_, range, all, any}
+use borrow.Author.Tests.{ne-eqb, leb-true}
+use Rattle.lxt_format.specs.Basics.{_unless_, _orElse_, range, all, any}
 use Rattle.lxt_format.specs.BasicsLaws.{on-test, and-both, neither, kept}
 use Rattle.lxt_format.specs.Bytes.{u32At}
-use Rattle.lxt_format.specs.Sections.{lengthAllowed, startsRight, endsRight, listingOf, nothingCompressed, present, sectionsPresent, bodySize, bodiesInside, inside, countAllowed, sectionOf, endOf, changesFrom, facilityCount, timeCount, timescaleOf, initialOf}
+use Rattle.lxt_format.specs.Sections.{lengthAllowed, startsRight, endsRight, listingOf, nothingCompressed, present, sectionsPresent, bodySize, bodiesInside, inside, countAllowed, sectionOf, endOf, facilityCount, timeCount, timescaleOf, initialOf}
 use Rattle.lxt_format.specs.SectionsLaws.{Located, located, body-inside}
 use Rattle.lxt_format.specs.Names.{namesIn, withinMemory, nameTable, namesAllowed}
 use Rattle.lxt_format.specs.Geometry.{rootsOf, syncOf, geometriesAllowed, aliasesAllowed}
 use Rattle.lxt_format.specs.Times.{tableAllowed, timesAllowed}
 use Rattle.lxt_format.specs.Reals.{testPattern, placeOf, testBytes, isReordering, byteOrder, hasReal, realTestAllowed}
 use Rattle.lxt_format.specs.Judge.{tablesRefusal}
-use Rattle.lxt_sections.specs.Stage.{frameRefusal, countedRefusal, sectionsRefusal, refusedWith, found, sectionsOf}
+use Rattle.lxt_sections.specs.Stage.{frameRefusal, countedRefusal, sectionsRefusal, found, sectionsOf}
 use Rattle.lxt_sections.specs.declared.Sections.{Sections}
-use Rattle.lxt_tables.specs.Stage.{Geometry, refusedTables, tablesOf}
-use Rattle.lxt_tables.specs.Asked.{Sync, Times, OneByte, Placed}
+use Rattle.lxt_tables.specs.Stage.{refusedTables, tablesOf}
+use Rattle.lxt_tables.specs.Asked.{OneByte, Placed}
 use Rattle.lxt_tables.specs.Steps.{middleRefusal, passedTables, lastTables}
 use Rattle.lxt_tables.specs.declared.Tables.{Tables}
 

@@ -23,7 +23,7 @@ pub fn root(file: &[u8], geometry: usize, n: u32, f: u32) -> u32
         at = rows(file, geometry, n, at);
         left -= 1;
     }
-    n
+    n // a cycle
 }
 
 // Refusal 12: every facility has a root.

@@ -9,7 +9,7 @@ ghost use Rattle.lxt_format.specs.Reals.{placeOf, testPattern, hasReal};
 ghost use Rattle.lxt_tables.specs.Stage.{Geometry};
 use crate::geometry::flags;
 
-// A root is of kind real. An alias has another flag, so its flags are not 2.
+// A root is of kind real. An alias has flag bit 3, so its flags are not 2.
 pub fn has_real(file: &[u8], geometry: usize, n: u32) -> bool
     requires { ⌜ Geometry (now file) geometry n ⌝ }
     ensures { λ r. ⌜ r ≡ hasReal (now (file .entry)) ⌝ }

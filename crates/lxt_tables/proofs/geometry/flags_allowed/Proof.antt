@@ -1,4 +1,3 @@
-use borrow.Author.Needs.{needs}
 use Rattle.lxt_tables.proofs.FacilityLaws.{flags-allowed-is}
 use Rattle.lxt_tables.proofs.geometry.flags_allowed.Statement.{statement}
 use Rattle.lxt_tables.proofs.geometry.flags_allowed.Tie as tie

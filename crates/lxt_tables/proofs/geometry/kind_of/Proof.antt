@@ -1,4 +1,3 @@
-use borrow.Author.Needs.{needs}
 use Rattle.lxt_tables.proofs.FacilityLaws.{integer-is, real-is, text-is, bits-is}
 use Rattle.lxt_tables.proofs.geometry.kind_of.Statement.{statement}
 use Rattle.lxt_tables.proofs.geometry.kind_of.Tie as tie

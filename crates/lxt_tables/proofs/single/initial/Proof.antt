@@ -1,4 +1,3 @@
-use borrow.Author.Needs.{needs}
 use Rattle.lxt_tables.proofs.SingleLaws.{readable, initial-absent, initial-code, initial-other}
 use Rattle.lxt_tables.proofs.single.initial.Statement.{statement}
 use Rattle.lxt_tables.proofs.single.initial.Tie as tie
