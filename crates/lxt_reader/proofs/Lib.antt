@@ -1,1 +1,2 @@
 pub mod JudgeWays
+pub mod AskWays

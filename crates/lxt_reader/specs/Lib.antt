@@ -1,1 +1,1 @@
--- The definitions of the questions stand in lxt_format.
+pub mod Asking

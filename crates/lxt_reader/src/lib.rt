@@ -1,5 +1,7 @@
 // The public questions on a trace. Every call judges the file first, takes any bytes and has no
 // requires; a refused call answers its number only and changes nothing that was lent.
+pub mod facilities;
+
 ghost use mathlib.Core.Path.{_≡_};
 ghost use Rattle.lxt_format.specs.Judge.{fileRefusal, judge};
 ghost use Rattle.lxt_format.specs.Answers.{judgementSays};
@@ -46,12 +48,12 @@ fn chains_refusal(file: &[u8], t: Tables) -> u8
 }
 
 // A judged file: its refusal, or 0, and its tables.
-struct Examined {
-    refusal: u8,
-    tables: Tables,
+pub struct Examined {
+    pub refusal: u8,
+    pub tables: Tables,
 }
 
-fn judged(file: &[u8]) -> Examined
+pub fn judged(file: &[u8]) -> Examined
     ensures { λ r. ⌜ (r .refusal ≡ fileRefusal (now (file .entry))) × (r .tables ≡ tablesOf (now (file .entry))) ⌝ }
 {
     let t = lxt_tables::whole::tables(file);
