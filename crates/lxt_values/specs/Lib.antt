@@ -1,2 +1,3 @@
 pub mod Symbols
 pub mod SymbolsLaws
+pub mod Reals

@@ -1,2 +1,4 @@
 // The values of changes, their times, and the expanded names.
+pub mod reals;
 pub mod symbols;
+pub mod texts;
