@@ -1,3 +1,4 @@
 pub mod SymbolLaws
 pub mod RealLaws
 pub mod TextLaws
+pub mod TimeLaws

@@ -1,3 +1,4 @@
 pub mod Symbols
 pub mod SymbolsLaws
 pub mod Reals
+pub mod Times

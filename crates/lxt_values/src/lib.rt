@@ -2,3 +2,4 @@
 pub mod reals;
 pub mod symbols;
 pub mod texts;
+pub mod times;
