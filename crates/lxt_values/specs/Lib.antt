@@ -2,3 +2,4 @@ pub mod Symbols
 pub mod SymbolsLaws
 pub mod Reals
 pub mod Times
+pub mod Names
