@@ -1,0 +1,6 @@
+pub mod SymbolLaws
+pub mod RealLaws
+pub mod TextLaws
+pub mod TimeLaws
+pub mod CopyLaws
+pub mod NameLaws

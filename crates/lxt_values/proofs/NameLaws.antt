@@ -1,0 +1,241 @@
+-- The laws of expanding names: the names of an allowed list, one after the other, at offsets of the file.
+use Prim.Native.Nat.{ℕ, zero, suc, _+_, _-_, _≤_, _<_}
+use mathlib.Core.Path.{_≡_, refl, sym, _∙_, ap}
+use mathlib.Core.Bool.{Bool, true, false, _&&_, false≢true}
+use mathlib.Core.List.{List, [], _∷_, _++_, append-assoc}
+use mathlib.Core.Option.{Option, none, some}
+use lib.ListN.{length, take, drop, getD, replicate, length-append, length-take, length-drop, length-replicate, take-append-drop}
+use lib.Seq.{slice, length-slice, length-take-le, drop-drop, getD-drop, getD-take, take-take, take-paste, paste, drop-paste, length-paste, drop-append-le, take-append-le, take-append-seam, take-all}
+use lib.Dec.{ltb, leb}
+use native.Mathlib.Omega.{arith}
+use native.Mathlib.Nat.{add-zero}
+use native.Mathlib.Numerals.{add-one}
+use borrow.Author.Tests.{leb-true, ltb-true}
+use Rattle.lxt_format.specs.Limits.{longestName}
+use Rattle.lxt_format.specs.Basics.{if_then_else_}
+use Rattle.lxt_format.specs.Bytes.{byteAt, u16At, toZero}
+use Rattle.lxt_format.specs.BytesLaws.{u16-bytes}
+use Rattle.lxt_format.specs.Names.{named, namesIn, memoryOf, withinMemory, nameAmong}
+use Rattle.lxt_format.specs.Questions.{holdingName}
+use Rattle.lxt_values.specs.Names.{nameAt, Named}
+
+-- ---- the next name of an allowed list
+
+-- no rule is broken
+unfoldable pub accepted : Option (List (List ℕ)) → Bool
+accepted none = false
+accepted (some names) = true
+
+within-accepted : (M : ℕ) (o : Option (List (List ℕ))) → withinMemory M o ≡ true → accepted o ≡ true
+unfolding accepted
+within-accepted M none h = h
+within-accepted M (some names) h = refl
+
+named-accepted : (name : List ℕ) (o : Option (List (List ℕ))) → accepted (named name o) ≡ true → accepted o ≡ true
+unfolding accepted
+named-accepted name none h = h
+named-accepted name (some names) h = refl
+
+-- an accepted list passed its four tests
+four : (a b c d : Bool) (o : Option (List (List ℕ))) → accepted (if a && (b && (c && d)) then o else none) ≡ true
+    → (a ≡ true) × (b ≡ true) × (c ≡ true) × (d ≡ true) × (accepted o ≡ true) × ((if a && (b && (c && d)) then o else none) ≡ o)
+unfolding accepted
+four false b c d o e = absurd (false≢true e)
+four true false c d o e = absurd (false≢true e)
+four true true false d o e = absurd (false≢true e)
+four true true true false o e = absurd (false≢true e)
+four true true true true o e = (refl, refl, refl, refl, e, refl)
+
+-- the length of the suffix of the name at p, and the name there after the name `before`
+abbrev pub suffixAt : List ℕ → ℕ → ℕ → ℕ
+suffixAt s T p = toZero (slice (p + 2) T s)
+
+abbrev pub nameHere : List ℕ → ℕ → ℕ → List ℕ → List ℕ
+nameHere s T p before = take (u16At s p) before ++ take (suffixAt s T p) (slice (p + 2) T s)
+
+-- what is known of the next of n names, at p
+pub record Step (s : List ℕ) (T n p : ℕ) (before : List ℕ) : Type 0 where
+  pub two : p + 2 ≤ T
+  pub prefix : u16At s p ≤ length before
+  pub ended : p + 2 + suffixAt s T p < T
+  pub small : u16At s p + suffixAt s T p ≤ 1023
+  pub rest : accepted (namesIn (n - 1) (slice (p + 2 + suc (suffixAt s T p)) T s) (nameHere s T p before)) ≡ true
+  pub list : namesIn n (slice p T s) before ≡ named (nameHere s T p before) (namesIn (n - 1) (slice (p + 2 + suc (suffixAt s T p)) T s) (nameHere s T p before))
+
+module _ (s : List ℕ) (T : ℕ) (t : T ≤ length s) where
+  -- the prefix bytes
+  head16 : (p : ℕ) → p + 2 ≤ T → u16At (slice p T s) 0 ≡ u16At s p
+  head16 p h =
+      let a : p < T = omega arith in
+      let b : p + 1 < T = omega arith in
+      rw (u16-bytes (slice p T s) 0, u16-bytes s p)
+      (simp (getD-drop p (take T s) 0 0, getD-drop p (take T s) (0 + 1) 0, add-zero, getD-take T s p 0 a, getD-take T s (p + 1) 0 b))
+
+  step : (n p : ℕ) (before : List ℕ) → 0 < n → p ≤ T → accepted (namesIn n (slice p T s) before) ≡ true → Step s T n p before
+  unfolding namesIn
+  step zero p before h l e = absurd (omega arith)
+  step (suc n) p before h l e =
+      let bs : List ℕ = slice p T s in
+      let rest : List ℕ = drop 2 bs in
+      let z : ℕ = toZero rest in
+      let name : List ℕ = take (u16At bs 0) before ++ take z rest in
+      let q = four (leb 2 (length bs)) (leb (u16At bs 0) (length before)) (ltb z (length rest)) (leb (length name) longestName) (named name (namesIn n (drop (suc z) rest) name)) e in
+      let two : p + 2 ≤ T = omega (arith, leb-true 2 (length bs) (q .0), length-slice p T s t) in
+      let hd : u16At bs 0 ≡ u16At s p = head16 p two in
+      let rs : rest ≡ slice (p + 2) T s = drop-drop 2 p (take T s) in
+      let pre : u16At bs 0 ≤ length before = leb-true _ _ (q .1) in
+      let zl : z < length rest = ltb-true _ _ (q .2) in
+      let zm : z ≤ length rest = omega arith in
+      let len : length name ≡ u16At bs 0 + z = simp (length-append, length-take-le (u16At bs 0) before pre, length-take-le z rest zm) in
+      let short : u16At bs 0 + z ≤ 1023 = omega (arith, leb-true (length name) 1023 (q .3)) in
+      let dd : drop (suc z) rest ≡ slice (p + 2 + suc z) T s = ap (drop (suc z)) rs ∙ drop-drop (suc z) (p + 2) (take T s) in
+      let zs : z ≡ toZero (slice (p + 2) T s) = ap toZero rs in
+      let n1 : suc n - 1 ≡ n = omega arith in
+      record {
+        two = two;
+        prefix = rw hd at pre;
+        ended = omega (arith, ap length rs ∙ length-slice (p + 2) T s t);
+        small = omega arith;
+        rest = rw (n1, ← hd, ← rs, ← dd) (named-accepted name (namesIn n (drop (suc z) rest) name) (q .4));
+        list = rw (n1, ← hd, ← rs, ← dd) (q .5);
+      }
+
+-- ---- the name that is wanted
+
+-- the one just read, or one of those that follow
+abbrev pub chosen : ℕ → List ℕ → Option (List (List ℕ)) → List ℕ
+chosen zero name o = name
+chosen (suc j) name o = nameAmong j o
+
+chosen-suc : (j : ℕ) (before name : List ℕ) (o : Option (List (List ℕ))) → accepted o ≡ true → chosen j name o ≡ chosen (suc j) before (named name o)
+unfolding accepted
+chosen-suc j before name none e = absurd (false≢true e)
+chosen-suc zero before name (some names) e = refl
+chosen-suc (suc j) before name (some names) e = refl
+
+chosen-next : (l : ℕ) (before name : List ℕ) (o : Option (List (List ℕ))) → 0 < l → accepted o ≡ true → chosen (l - 1) name o ≡ chosen l before (named name o)
+chosen-next zero before name o h e = absurd (omega arith)
+chosen-next (suc j) before name o h e = let q : suc j - 1 ≡ j = omega arith in rw q (chosen-suc j before name o e)
+
+-- the same bytes, whether the file is cut at T or not
+uncut : (s : List ℕ) (T a y : ℕ) → T ≤ length s → a + y ≤ T → take y (slice a T s) ≡ take y (drop a s)
+uncut s T a y t h =
+    let lt : length (take T s) ≡ T = length-take-le T s t in
+    let al : a ≤ length (take T s) = omega arith in
+    let yl : y ≤ length (drop a (take T s)) = omega (arith, length-drop a (take T s)) in
+    sym (ap (λ (l : List ℕ). take y (drop a l)) (sym (take-append-drop T s)) ∙ ap (take y) (drop-append-le a (take T s) (drop T s) al) ∙ take-append-le y (drop a (take T s)) (drop T s) yl)
+
+-- ---- the loop
+
+-- `left` names are still to be read, the wanted one the last of them; the buffer d holds the name before as its first len bytes
+pub record Held (s : List ℕ) (at T n M f : ℕ) (d₀ d : List ℕ) (p len left : ℕ) : Type 0 where
+  pub asked : Named s at T n M f
+  pub room : 1023 ≤ length d₀
+  pub few : left ≤ f + 1
+  pub inT : p ≤ T
+  pub long : length d ≡ length d₀
+  pub tail : drop 1023 d ≡ drop 1023 d₀
+  pub small : len ≤ 1023
+  pub allowed : accepted (namesIn (left + (n - (f + 1))) (slice p T s) (take len d)) ≡ true
+  pub name : chosen left (take len d) (namesIn (left + (n - (f + 1))) (slice p T s) (take len d)) ≡ nameAt s at T n f
+
+-- no name is read yet
+pub none-read : (s : List ℕ) (at T n M f : ℕ) (d : List ℕ) → Named s at T n M f → 1023 ≤ length d → Held s at T n M f d d at 0 (f + 1)
+unfolding nameAt
+none-read s at T n M f d k room =
+    let l = k .number in
+    let r : f + 1 + (n - (f + 1)) ≡ n = omega arith in
+    record {
+      asked = k;
+      room = room;
+      few = omega arith;
+      inT = k .start;
+      long = refl;
+      tail = refl;
+      small = omega arith;
+      allowed = rw r (within-accepted M (namesIn n (slice at T s) []) (k .allowed));
+      name = rw (r, add-one);
+    }
+
+module _ (s : List ℕ) (at T n M f : ℕ) (d₀ d : List ℕ) (p len left : ℕ) (h : Held s at T n M f d₀ d p len left) where
+  module _ (more : 0 < left) where
+    here : Step s T (left + (n - (f + 1))) p (take len d)
+    here = step s T (h .asked .inside) (left + (n - (f + 1))) p (take len d) (omega arith) (h .inT) (h .allowed)
+
+    -- the prefix is no longer than what the buffer holds
+    prefix-held : u16At s p ≤ len
+    prefix-held = omega (arith, here .prefix, length-take len d)
+
+    -- the bounds that the code's indices and sums want
+    pub bounds : (p + 2 ≤ T) × (u16At s p ≤ len) × (p + 2 + suffixAt s T p < T) × (u16At s p + suffixAt s T p ≤ 1023)
+    bounds = (here .two, prefix-held, here .ended, here .small)
+
+    -- the next name is read: a prefix of k bytes stays, and y bytes of the file follow it
+    pub one-read : (k y : ℕ) (d′ : List ℕ) → k ≡ u16At s p → y ≡ suffixAt s T p → d′ ≡ paste d k (drop (p + 2) s) y
+        → Held s at T n M f d₀ d′ (p + 2 + y + 1) (k + y) (left - 1)
+    one-read k y d′ ek ey ed =
+        let st = here in
+        let ended = st .ended in
+        let small = st .small in
+        let pre = prefix-held in
+        let room = h .room in
+        let long = h .long in
+        let t = h .asked .inside in
+        let bytes : List ℕ = drop (p + 2) s in
+        let in-d : k + y ≤ length d = omega arith in
+        let k-d : k ≤ length d = omega arith in
+        let k-len : k ≤ len = omega arith in
+        let in-s : y ≤ length bytes = omega (arith, length-drop (p + 2) s) in
+        let in-T : p + 2 + y ≤ T = omega arith in
+        let held : take (k + y) d′ ≡ nameHere s T p (take len d) =
+        rw ed (take-paste d k bytes y k-d in-s ∙ rw (← take-take k len d k-len, ← uncut s T (p + 2) y t in-T, ek, ey)) in
+        let count : left - 1 + (n - (f + 1)) ≡ left + (n - (f + 1)) - 1 = omega arith in
+        let after : p + 2 + y + 1 ≡ p + 2 + suc (suffixAt s T p) = omega arith in
+        let j : ℕ = 1023 - (k + y) in
+        let ej : k + y + j ≡ 1023 = omega arith in
+        record {
+          asked = h .asked;
+          room = h .room;
+          few = (let l = h .few in omega arith);
+          inT = omega arith;
+          long = rw ed (length-paste d k bytes y in-d in-s ∙ h .long);
+          tail = ap (λ (x : ℕ). drop x d′) (sym ej) ∙ sym (drop-drop j (k + y) d′) ∙ ap (drop j) (rw ed (drop-paste d k bytes y k-d in-s)) ∙ drop-drop j (k + y) d ∙ ap (λ (x : ℕ). drop x d) ej ∙ h .tail;
+          small = omega arith;
+          allowed = rw (count, after, held) (st .rest);
+          name = rw (count, after, held) (chosen-next left (take len d) (nameHere s T p (take len d)) _ more (st .rest) ∙ ap (chosen left (take len d)) (sym (st .list)) ∙ h .name);
+        }
+
+  module _ (done : left ≤ 0) where
+    named-held : take len d ≡ nameAt s at T n f
+    named-held = let e : left ≡ 0 = omega arith in rw e at (h .name)
+
+    -- the wanted name is read: its length
+    pub name-length : len ≡ length (nameAt s at T n f)
+    name-length =
+        let small = h .small in
+        let room = h .room in
+        let long = h .long in
+        let l : len ≤ length d = omega arith in
+        sym (length-take-le len d l) ∙ ap length named-held
+
+    -- and the buffer, after the zeros
+    pub name-held : (d′ : List ℕ) → d′ ≡ paste d len (replicate (1023 - len) 0) (1023 - len) → d′ ≡ holdingName (nameAt s at T n f) d₀
+    unfolding holdingName
+    name-held d′ e =
+        let k : ℕ = 1023 - len in
+        let small = h .small in
+        let room = h .room in
+        let long = h .long in
+        let l : len ≤ length d = omega arith in
+        let ek : len + k ≡ 1023 = omega arith in
+        let all : take k (replicate {A = ℕ} k 0) ≡ replicate k 0 = take-all k (replicate k 0) (omega (arith, length-replicate {A = ℕ} k 0)) in
+        e ∙ append-assoc (take len d) (take k (replicate k 0)) (drop (len + k) d) ∙ rw (← named-held, length-take-le len d l, all, ek, h .tail)
+
+-- ---- the part of the buffer that is the name
+
+pub front : (name d₀ d : List ℕ) (r : ℕ) → r ≡ length name → d ≡ holdingName name d₀ → take r d ≡ name
+unfolding holdingName
+front name d₀ d r e q = rw (e, q) (take-append-seam name (replicate (longestName - length name) 0 ++ drop longestName d₀))
+
+pub front-length : (name d₀ d : List ℕ) (r : ℕ) → r ≡ length name → d ≡ holdingName name d₀ → r ≡ length (take r d)
+front-length name d₀ d r e q = e ∙ sym (ap length (front name d₀ d r e q))

@@ -1,0 +1,5 @@
+pub mod Symbols
+pub mod SymbolsLaws
+pub mod Reals
+pub mod Times
+pub mod Names

@@ -1,0 +1,42 @@
+-- A change of bits or of an integer that breaks no rule has symbols that can be written.
+use Prim.Native.Nat.{ℕ, _+_, _≤_, _<_}
+use mathlib.Core.Path.{_≡_, sym}
+use mathlib.Core.Bool.{Bool, true, false, _&&_, _||_, false≢true}
+use mathlib.Core.List.{List}
+use lib.ListN.{length}
+use lib.Dec.{leb, eqb}
+use native.Mathlib.Omega.{arith}
+use borrow.Author.Tests.{leb-true, eqb-true, ne-eqb}
+use Rattle.lxt_format.specs.BasicsLaws.{and-both, or-either}
+use Rattle.lxt_format.specs.Changes.{commandOf, dataAt, commandAllowed, symbolSize, packedSize, codesAllowed, paddingAllowed, symbolsAllowed, dataSize, dataAllowed, changeEnd}
+use Rattle.lxt_format.specs.ChangesLaws.{Sound}
+use Rattle.lxt_format.specs.declared.Kind.{Kind}
+use Rattle.lxt_format.specs.declared.Kind.the-variants.{Bits, Integer, Real, Text}
+use Rattle.lxt_changes.specs.Faults.{symbolic}
+use Rattle.lxt_values.specs.Symbols.{Drawn}
+
+-- where there is data, allowed symbols have allowed codes
+codes-of : (s : List ℕ) (b width o : ℕ) → symbolsAllowed s b width o ≡ true → (b ≡ 0 → ⊥) → codesAllowed s b width o ≡ true
+unfolding symbolsAllowed
+codes-of s b width o h n = and-both (codesAllowed s b width o) (paddingAllowed s b width o) (simp (ne-eqb b 0 n) at h) .0
+
+-- the commands of an integer are commands of bits
+integer-command : (c : ℕ) → commandAllowed Integer c ≡ true → c ≤ 0xB
+unfolding commandAllowed
+integer-command c h =
+    or-either (eqb c 0) (eqb c 3 || eqb c 4) h (λ e. let q = eqb-true c 0 e in omega arith)
+    (λ g. or-either (eqb c 3) (eqb c 4) g (λ e. let q = eqb-true c 3 e in omega arith) (λ e. let q = eqb-true c 4 e in omega arith))
+
+-- a sound change whose kind has symbols
+pub sound-drawn : (s : List ℕ) (C T : ℕ) (kind : Kind) (width o : ℕ) → symbolic kind ≡ true → T ≤ length s → Sound s C T kind width o → Drawn s width o
+unfolding symbolic changeEnd dataSize dataAllowed commandAllowed
+sound-drawn s C T Bits width o k t d =
+    let a = d .before in
+    let e = d .ends in
+    record { starts = omega arith; inside = omega arith; command = leb-true _ _ (d .command); codes = codes-of s _ width _ (d .data′) }
+sound-drawn s C T Integer width o k t d =
+    let a = d .before in
+    let e = d .ends in
+    record { starts = omega arith; inside = omega arith; command = integer-command _ (d .command); codes = codes-of s _ width _ (d .data′) }
+sound-drawn s C T Real width o k t d = absurd (false≢true k)
+sound-drawn s C T Text width o k t d = absurd (false≢true k)

@@ -1,0 +1,81 @@
+// The expanded name of a facility, written into a lent buffer.
+ghost use mathlib.Core.Path.{_≡_};
+ghost use Prim.Native.Nat.{_+_, _-_, _≤_, _<_};
+ghost use lib.ListN.{length, drop, replicate};
+ghost use lib.Seq.{paste};
+ghost use Rattle.lxt_format.specs.Questions.{holdingName};
+ghost use Rattle.lxt_values.specs.Names.{Named, nameAt};
+use crate::texts;
+use lxt_format::NameCursor;
+use lxt_sections::be16;
+
+// Copies `count` bytes of the file from `from` on into the buffer from `at` on.
+fn copy_part(file: &[u8], from: usize, count: usize, names: &mut [u8], at: usize)
+    requires { ⌜ (from + count ≤ length (now file)) × (at + count ≤ length (now names)) ⌝ }
+    ensures { λ _. ⌜ now (names .exit) ≡ paste (now (names .entry)) at (drop from (now (file .entry))) count ⌝ }
+{
+    let mut j: usize = 0;
+    while j < count {
+        names[at + j] = file[from + j];
+        j += 1;
+    }
+}
+
+// Zeros from `from` up to `to`.
+fn clear(names: &mut [u8], from: usize, to: usize)
+    requires { ⌜ (from ≤ to) × (to ≤ length (now names)) ⌝ }
+    ensures { λ _. ⌜ now (names .exit) ≡ paste (now (names .entry)) from (replicate (to - from) 0) (to - from) ⌝ }
+{
+    let mut j = from;
+    while j < to {
+        names[j] = 0;
+        j += 1;
+    }
+}
+
+// The name of facility `f` of the `n` names from `at` up to `end`: its length. The buffer then holds
+// the name, zeros up to 1,023 bytes, and what stood after them.
+pub fn expand(
+    file: &[u8],
+    at: usize,
+    end: usize,
+    n: u32,
+    memory: u32,
+    f: u32,
+    names: &mut [u8],
+) -> usize
+    requires { ⌜ Named (now file) at end n memory f × (1023 ≤ length (now names)) ⌝ }
+    ensures { λ r. ⌜ (r ≡ length (nameAt (now (file .entry)) at end n f)) × (now (names .exit) ≡ holdingName (nameAt (now (file .entry)) at end n f) (now (names .entry))) ⌝ }
+{
+    let mut p = at;
+    let mut len: usize = 0;
+    let mut left = f + 1;
+    while 0 < left {
+        let prefix = be16(file, p) as usize;
+        let from = p + 2;
+        let count = texts::length(file, from, end);
+        copy_part(file, from, count, names, prefix);
+        len = prefix + count;
+        p = from + count + 1;
+        left -= 1;
+    }
+    clear(names, len, NameCursor::LONGEST);
+    len
+}
+
+// The name itself: the first bytes of the lent buffer, which is written alike.
+pub fn part<'f, 'a>(
+    file: &'f [u8],
+    at: usize,
+    end: usize,
+    n: u32,
+    memory: u32,
+    f: u32,
+    names: &'a mut [u8],
+) -> &'a mut [u8]
+    requires { ⌜ Named (now file) at end n memory f × (1023 ≤ length (now names)) ⌝ }
+    ensures { λ r. ⌜ now r ≡ nameAt (now (file .entry)) at end n f ⌝ }
+{
+    let len = expand(file, at, end, n, memory, f, names);
+    &mut names[..len]
+}

@@ -1,0 +1,81 @@
+// The times of changes.
+ghost use mathlib.Core.Path.{_≡_};
+ghost use Rattle.lxt_format.specs.Times.{timeOf};
+ghost use Rattle.lxt_format.specs.Changes.{chainOf};
+ghost use Rattle.lxt_format.specs.Values.{latestAt};
+ghost use Rattle.lxt_values.specs.Times.{Times, Limit, Readable};
+use lxt_changes::delta;
+use lxt_sections::be32;
+
+// The time of a change at `o`, by one pass over the time table of `m` entries; 0 where it is empty.
+pub fn time_of(file: &[u8], times: usize, m: u32, o: usize) -> u32
+    requires { ⌜ Times (now file) times m ⌝ }
+    ensures { λ r. ⌜ r ≡ timeOf (now (file .entry)) o ⌝ }
+{
+    let count = m as usize;
+    if count == 0 {
+        return 0;
+    }
+    let positions = times + 12;
+    let steps = positions + 4 * count;
+    let mut found = be32(file, steps) as u64;
+    let mut position: u64 = 0;
+    let mut time: u64 = 0;
+    let mut i: usize = 0;
+    while i < count {
+        position += be32(file, positions + 4 * i) as u64;
+        time += be32(file, steps + 4 * i) as u64;
+        i += 1;
+        if position <= o as u64 {
+            found = time;
+        }
+    }
+    found as u32
+}
+
+// The offset below which a change has a time of at most `t`: the position of the first entry with a
+// later time, 0 where entry 0 is later, the end of the file where none is. Times never fall along the
+// table, so that one pass finds it.
+fn limit(file: &[u8], times: usize, m: u32, t: u32) -> usize
+    requires { ⌜ Times (now file) times m ⌝ }
+    ensures { λ r. ⌜ Limit (now (file .entry)) t r ⌝ }
+{
+    let count = m as usize;
+    if count == 0 {
+        return file.len();
+    }
+    let positions = times + 12;
+    let steps = positions + 4 * count;
+    if t < be32(file, steps) {
+        return 0;
+    }
+    let mut position: usize = 0;
+    let mut time: u64 = 0;
+    let mut i: usize = 0;
+    while i < count {
+        position += be32(file, positions + 4 * i) as usize;
+        time += be32(file, steps + 4 * i) as u64;
+        if (t as u64) < time {
+            return position;
+        }
+        i += 1;
+    }
+    file.len()
+}
+
+// The latest change of the chain from `from` on with a time of at most `t`, or 0: the chain falls, so
+// that it is the first one below the limit.
+pub fn latest(file: &[u8], times: usize, m: u32, from: usize, t: u32) -> usize
+    requires { ⌜ Times (now file) times m × Readable (now file) (chainOf (now file) from) ⌝ }
+    ensures { λ r. ⌜ r ≡ latestAt (now (file .entry)) t (chainOf (now (file .entry)) from) ⌝ }
+{
+    let end = limit(file, times, m, t);
+    let mut o = from;
+    while end <= o {
+        if o == 0 {
+            return 0;
+        }
+        o = delta::previous(file, o);
+    }
+    o
+}
