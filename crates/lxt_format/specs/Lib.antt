@@ -6,6 +6,7 @@ pub mod BytesLaws
 pub mod Sections
 pub mod SectionsLaws
 pub mod Names
+pub mod NamesLaws
 pub mod Geometry
 pub mod GeometryLaws
 pub mod Times

@@ -1,2 +1,3 @@
 pub mod JudgeWays
 pub mod AskWays
+pub mod NameWays

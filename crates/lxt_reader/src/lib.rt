@@ -1,6 +1,7 @@
 // The public questions on a trace. Every call judges the file first, takes any bytes and has no
 // requires; a refused call answers its number only and changes nothing that was lent.
 pub mod facilities;
+pub mod names;
 
 ghost use mathlib.Core.Path.{_≡_};
 ghost use Rattle.lxt_format.specs.Judge.{fileRefusal, judge};
