@@ -1,5 +1,5 @@
 -- The laws of the two loops that write a part of the names buffer.
-use Prim.Native.Nat.{ℕ, suc, _+_, _-_, _≤_, _<_}
+use Prim.Native.Nat.{ℕ, _+_, _-_, _≤_, _<_}
 use mathlib.Core.Path.{_≡_, refl, sym, _∙_, ap}
 use mathlib.Core.List.{List}
 use lib.ListN.{length, getD, set, drop, replicate, length-set, length-drop, length-replicate, getD-replicate}
@@ -43,6 +43,7 @@ module _ (new : List ℕ) (n at : ℕ) (d₀ d : List ℕ) (j : ℕ) (w : Pasted
 pub copy-begun : (s : List ℕ) (from count : ℕ) (d : List ℕ) (at : ℕ) → from + count ≤ length s → at + count ≤ length d → Pasted (drop from s) count at d d 0
 copy-begun s from count d at h k = none-pasted (drop from s) count at d (omega (arith, length-drop from s)) k
 
+-- the next byte of the file is copied
 pub copy-turn : (s : List ℕ) (from count : ℕ) (d₀ d : List ℕ) (at j : ℕ) → Pasted (drop from s) count at d₀ d j → j < count
     → Pasted (drop from s) count at d₀ (set d (at + j) (getD s (from + j) 0)) (j + 1)
 copy-turn s from count d₀ d at j w h = one-pasted (drop from s) count at d₀ d j w h (getD s (from + j) 0) (sym (getD-drop from s j 0))
@@ -52,6 +53,7 @@ pub record Cleared (from to : ℕ) (d₀ d : List ℕ) (j : ℕ) : Type 0 where
   pub within : from ≤ j
   pub pasted : Pasted (replicate (to - from) 0) (to - from) from d₀ d (j - from)
 
+-- no zero is written yet
 pub clear-begun : (from to : ℕ) (d : List ℕ) → from ≤ to → to ≤ length d → Cleared from to d d from
 clear-begun from to d h k =
     let z : from - from ≡ 0 = omega arith in
@@ -61,6 +63,7 @@ clear-begun from to d h k =
     }
 
 module _ (from to : ℕ) (d₀ d : List ℕ) (j : ℕ) (w : Cleared from to d₀ d j) where
+  -- one zero more
   pub clear-turn : j < to → Cleared from to d₀ (set d j 0) (j + 1)
   clear-turn h =
       let l = w .within in
@@ -74,5 +77,6 @@ module _ (from to : ℕ) (d₀ d : List ℕ) (j : ℕ) (w : Cleared from to d₀
         pasted = rw (q, ← ap (λ x. set d x 0) e) next;
       }
 
+  -- all zeros are written
   pub clear-done : from ≤ to → to ≤ j → d ≡ paste d₀ from (replicate (to - from) 0) (to - from)
   clear-done h k = all-pasted (replicate (to - from) 0) (to - from) from d₀ d (j - from) (w .pasted) (omega arith)

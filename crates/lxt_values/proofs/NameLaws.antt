@@ -2,9 +2,9 @@
 use Prim.Native.Nat.{ℕ, zero, suc, _+_, _-_, _≤_, _<_}
 use mathlib.Core.Path.{_≡_, refl, sym, _∙_, ap}
 use mathlib.Core.Bool.{Bool, true, false, _&&_, false≢true}
-use mathlib.Core.List.{List, [], _∷_, _++_, append-assoc}
+use mathlib.Core.List.{List, [], _++_, append-assoc}
 use mathlib.Core.Option.{Option, none, some}
-use lib.ListN.{length, take, drop, getD, replicate, length-append, length-take, length-drop, length-replicate, take-append-drop}
+use lib.ListN.{length, take, drop, replicate, length-append, length-take, length-drop, length-replicate, take-append-drop}
 use lib.Seq.{slice, length-slice, length-take-le, drop-drop, getD-drop, getD-take, take-take, take-paste, paste, drop-paste, length-paste, drop-append-le, take-append-le, take-append-seam, take-all}
 use lib.Dec.{ltb, leb}
 use native.Mathlib.Omega.{arith}
@@ -13,9 +13,9 @@ use native.Mathlib.Numerals.{add-one}
 use borrow.Author.Tests.{leb-true, ltb-true}
 use Rattle.lxt_format.specs.Limits.{longestName}
 use Rattle.lxt_format.specs.Basics.{if_then_else_}
-use Rattle.lxt_format.specs.Bytes.{byteAt, u16At, toZero}
+use Rattle.lxt_format.specs.Bytes.{u16At, toZero}
 use Rattle.lxt_format.specs.BytesLaws.{u16-bytes}
-use Rattle.lxt_format.specs.Names.{named, namesIn, memoryOf, withinMemory, nameAmong}
+use Rattle.lxt_format.specs.Names.{named, namesIn, withinMemory, nameAmong}
 use Rattle.lxt_format.specs.Questions.{holdingName}
 use Rattle.lxt_values.specs.Names.{nameAt, Named}
 
@@ -26,11 +26,13 @@ unfoldable pub accepted : Option (List (List ℕ)) → Bool
 accepted none = false
 accepted (some names) = true
 
+-- names within the memory break no rule
 within-accepted : (M : ℕ) (o : Option (List (List ℕ))) → withinMemory M o ≡ true → accepted o ≡ true
 unfolding accepted
 within-accepted M none h = h
 within-accepted M (some names) h = refl
 
+-- nor do those after the first
 named-accepted : (name : List ℕ) (o : Option (List (List ℕ))) → accepted (named name o) ≡ true → accepted o ≡ true
 unfolding accepted
 named-accepted name none h = h
@@ -46,10 +48,11 @@ four true true false d o e = absurd (false≢true e)
 four true true true false o e = absurd (false≢true e)
 four true true true true o e = (refl, refl, refl, refl, e, refl)
 
--- the length of the suffix of the name at p, and the name there after the name `before`
+-- the length of the suffix of the name at p
 abbrev pub suffixAt : List ℕ → ℕ → ℕ → ℕ
 suffixAt s T p = toZero (slice (p + 2) T s)
 
+-- the name at p after the name `before`
 abbrev pub nameHere : List ℕ → ℕ → ℕ → List ℕ → List ℕ
 nameHere s T p before = take (u16At s p) before ++ take (suffixAt s T p) (slice (p + 2) T s)
 
@@ -71,6 +74,7 @@ module _ (s : List ℕ) (T : ℕ) (t : T ≤ length s) where
       rw (u16-bytes (slice p T s) 0, u16-bytes s p)
       (simp (getD-drop p (take T s) 0 0, getD-drop p (take T s) (0 + 1) 0, add-zero, getD-take T s p 0 a, getD-take T s (p + 1) 0 b))
 
+  -- the next name of an accepted list is such a one
   step : (n p : ℕ) (before : List ℕ) → 0 < n → p ≤ T → accepted (namesIn n (slice p T s) before) ≡ true → Step s T n p before
   unfolding namesIn
   step zero p before h l e = absurd (omega arith)
@@ -107,12 +111,14 @@ abbrev pub chosen : ℕ → List ℕ → Option (List (List ℕ)) → List ℕ
 chosen zero name o = name
 chosen (suc j) name o = nameAmong j o
 
+-- one name on, the wanted one is one nearer
 chosen-suc : (j : ℕ) (before name : List ℕ) (o : Option (List (List ℕ))) → accepted o ≡ true → chosen j name o ≡ chosen (suc j) before (named name o)
 unfolding accepted
 chosen-suc j before name none e = absurd (false≢true e)
 chosen-suc zero before name (some names) e = refl
 chosen-suc (suc j) before name (some names) e = refl
 
+-- the same, counted by what is left
 chosen-next : (l : ℕ) (before name : List ℕ) (o : Option (List (List ℕ))) → 0 < l → accepted o ≡ true → chosen (l - 1) name o ≡ chosen l before (named name o)
 chosen-next zero before name o h e = absurd (omega arith)
 chosen-next (suc j) before name o h e = let q : suc j - 1 ≡ j = omega arith in rw q (chosen-suc j before name o e)
@@ -159,6 +165,7 @@ none-read s at T n M f d k room =
 
 module _ (s : List ℕ) (at T n M f : ℕ) (d₀ d : List ℕ) (p len left : ℕ) (h : Held s at T n M f d₀ d p len left) where
   module _ (more : 0 < left) where
+    -- what is known of the next name
     here : Step s T (left + (n - (f + 1))) p (take len d)
     here = step s T (h .asked .inside) (left + (n - (f + 1))) p (take len d) (omega arith) (h .inT) (h .allowed)
 
@@ -206,6 +213,7 @@ module _ (s : List ℕ) (at T n M f : ℕ) (d₀ d : List ℕ) (p len left : ℕ
         }
 
   module _ (done : left ≤ 0) where
+    -- the buffer holds the wanted name
     named-held : take len d ≡ nameAt s at T n f
     named-held = let e : left ≡ 0 = omega arith in rw e at (h .name)
 
@@ -233,9 +241,11 @@ module _ (s : List ℕ) (at T n M f : ℕ) (d₀ d : List ℕ) (p len left : ℕ
 
 -- ---- the part of the buffer that is the name
 
+-- it is the first bytes of the buffer
 pub front : (name d₀ d : List ℕ) (r : ℕ) → r ≡ length name → d ≡ holdingName name d₀ → take r d ≡ name
 unfolding holdingName
 front name d₀ d r e q = rw (e, q) (take-append-seam name (replicate (longestName - length name) 0 ++ drop longestName d₀))
 
+-- and has its length
 pub front-length : (name d₀ d : List ℕ) (r : ℕ) → r ≡ length name → d ≡ holdingName name d₀ → r ≡ length (take r d)
 front-length name d₀ d r e q = e ∙ sym (ap length (front name d₀ d r e q))

@@ -1,12 +1,12 @@
 -- The laws of reals.
-use Prim.Native.Nat.{ℕ, zero, suc, _+_, _*_, _-_, _≤_, _<_, _/_, _%_, _^_}
+use Prim.Native.Nat.{ℕ, suc, _+_, _*_, _-_, _≤_, _<_, _%_, _^_}
 use mathlib.Core.Path.{_≡_, refl, sym, _∙_, ap}
-use mathlib.Core.Bool.{Bool, true, false, not, false≢true}
+use mathlib.Core.Bool.{true, not, false≢true}
 use mathlib.Core.List.{List, [], _∷_}
 use lib.ListN.{length, getD, drop, drop-of-length-le}
 use lib.Seq.{drop-cons}
 use lib.Pow.{pow-add, pow-mono}
-use lib.Dec.{T, ltb}
+use lib.Dec.{T}
 use lib.Ieee.{Float, nan, inf, fin, binary64, isNan, ofBits, nanBits, div}
 use lib.Ieee.Bits.{nanBits-is, nanBits-above}
 use native.Mathlib.Omega.{arith}
@@ -37,6 +37,7 @@ module _ (s order : List ℕ) (at bits i : ℕ) (g : Gathered s order at bits i)
   all-gathered h = let e : i ≡ 0 = omega arith in rw e at (g .sum)
 
   module _ (h : 0 < i) (x : ℕ) (small : x < 256) where
+    -- a byte more, and the sum is below the next power
     larger : bits * 256 + x < 2 ^ (8 * (8 - (i - 1)))
     larger =
         let k : ℕ = 8 * (8 - i) in
@@ -72,6 +73,7 @@ module _ (s order : List ℕ) (at bits i : ℕ) (g : Gathered s order at bits i)
 
 -- ---- the number
 
+-- there is one NaN
 nan-is : (x : Float) → isNan x ≡ true → x ≡ nan
 unfolding isNan
 nan-is nan h = refl

@@ -1,16 +1,16 @@
 -- The laws of writing symbols. The unpacking is one law over the symbol's size of b bits, of which a byte holds p.
 use Prim.Native.Nat.{ℕ, zero, suc, _+_, _*_, _-_, _≤_, _<_, _/_, _%_, _^_}
-use mathlib.Core.Path.{_≡_, refl, sym, _∙_, ap}
-use mathlib.Core.Bool.{Bool, true, false}
+use mathlib.Core.Path.{_≡_, refl, sym, _∙_}
+use mathlib.Core.Bool.{Bool, true}
 use mathlib.Core.List.{List, [], _∷_, _++_, map}
 use lib.ListN.{length, getD, take, drop, set, replicate, length-set, length-map, length-replicate, getD-replicate}
 use lib.Seq.{slice, length-slice, getD-drop, getD-take, set-at, take-suc, drop-cons, take-all, append-snoc, length-take-le}
-use lib.Dec.{leb, eqb, lit<}
+use lib.Dec.{leb, lit<}
 use native.Mathlib.Omega.{arith}
 use native.Mathlib.Numerals.{add-one}
 use native.Mathlib.Nat.{div-lt-iff-lt-mul, mul-comm}
-use borrow.Author.Tests.{eq-eqb, ne-eqb, leb-true}
-use Rattle.lxt_format.specs.Basics.{if_then_else_, all}
+use borrow.Author.Tests.{ne-eqb, leb-true}
+use Rattle.lxt_format.specs.Basics.{all}
 use Rattle.lxt_format.specs.BasicsLaws.{and-both}
 use Rattle.lxt_format.specs.Bytes.{byteAt}
 use Rattle.lxt_format.specs.Changes.{commandOf, deltaSize, dataAt, symbolSize, packedSize, codesAt, codesAllowed}
@@ -61,15 +61,17 @@ module _ (new : List ℕ) (n : ℕ) (d₀ d : List ℕ) (i : ℕ) (l : Laid new 
 
 -- ---- one symbol at every place
 
--- the laws of `Laid` for one symbol
+-- no symbol is written yet
 pub fill-begun : (n x : ℕ) (d : List ℕ) → n ≤ length d → Laid (replicate n x) n d d 0
 fill-begun n x d h = none-laid (replicate n x) n d (length-replicate n x) h
 
+-- one symbol more
 pub fill-turn : (n x : ℕ) (d₀ d : List ℕ) (i : ℕ) → Laid (replicate n x) n d₀ d i → i < n → Laid (replicate n x) n d₀ (set d i x) (i + 1)
 fill-turn n x d₀ d i l h = one-laid (replicate n x) n d₀ d i l h x (sym (getD-replicate n i x 0 h))
 
 -- ---- unpacking
 
+-- an element of a list that was mapped
 getD-map : (f : ℕ → ℕ) (l : List ℕ) (i : ℕ) → i < length l → getD (map f l) i 0 ≡ f (getD l i 0)
 getD-map f [] i h = absurd (omega arith)
 getD-map f (x ∷ l) zero h = refl
@@ -88,14 +90,17 @@ pub record Sizes (b p : ℕ) : Type 0 where
   pub whole : 8 / b ≡ p
   pub holds : (width : ℕ) → width ≤ p * packedSize b width
 
+-- 1 bit a symbol, 8 symbols a byte
 pub by-1 : Sizes 1 8
 unfolding packedSize
 by-1 = record { some-fit = lit< tt; whole = refl; holds = λ width. omega arith }
 
+-- 2 bits, 4 symbols
 pub by-2 : Sizes 2 4
 unfolding packedSize
 by-2 = record { some-fit = lit< tt; whole = refl; holds = λ width. omega arith }
 
+-- 4 bits, 2 symbols
 pub by-4 : Sizes 4 2
 unfolding packedSize
 by-4 = record { some-fit = lit< tt; whole = refl; holds = λ width. omega arith }
@@ -105,20 +110,25 @@ abbrev pub symbolsOf : List ℕ → ℕ → ℕ → ℕ → List ℕ
 symbolsOf s b width o = map symbolOf (codesAt s b width o)
 
 module _ (b p : ℕ) (sizes : Sizes b p) (s : List ℕ) (width o : ℕ) (k : Packed s b width o) where
+  -- the data is as long as the packed symbols
   data-length : length (slice o (o + packedSize b width) s) ≡ packedSize b width
   data-length = length-slice o (o + packedSize b width) s (k .inside) ∙ omega arith
 
+  -- there are `width` codes
   codes-length : length (codesAt s b width o) ≡ width
   unfolding codesAt
   codes-length = length-unpack b p (sizes .some-fit) (sizes .whole) width (slice o (o + packedSize b width) s) (rw data-length (sizes .holds width))
 
+  -- and `width` symbols
   pub symbols-length : length (symbolsOf s b width o) ≡ width
   symbols-length = length-map (codesAt s b width o) symbolOf ∙ codes-length
 
+  -- no symbol is written yet
   pub unpack-begun : (d : List ℕ) → width ≤ length d → Laid (symbolsOf s b width o) width d d 0
   unpack-begun d h = none-laid (symbolsOf s b width o) width d symbols-length h
 
   module _ (i : ℕ) (h : i < width) where
+    -- code i lies in the data
     within-data : i < p * packedSize b width
     within-data = let g = sizes .holds width in omega arith
 
@@ -158,6 +168,7 @@ module _ (b p : ℕ) (sizes : Sizes b p) (s : List ℕ) (width o : ℕ) (k : Pac
 -- ---- the ways through `write`
 
 module _ (s : List ℕ) (width o : ℕ) (k : Drawn s width o) (d : ℕ) (ed : d ≡ deltaSize s o) where
+  -- where the data starts
   data-is : dataAt s o ≡ o + 1 + d
   unfolding dataAt
   data-is = rw ed
@@ -182,38 +193,46 @@ module _ (s : List ℕ) (width o : ℕ) (k : Drawn s width o) (d : ℕ) (ed : d 
 
   -- commands 0, 1 and 2
   module _ (e : byteAt s o % 16 ≡ 0) where
+    -- the data of command 0
     pub data-1 : Packed s 1 width (o + 1 + d)
     unfolding symbolSize
     data-1 = drawn-data 1 (omega arith) (rw e)
 
+    -- its symbols are written
     pub wrote-1 : (d₀ d′ : List ℕ) → d′ ≡ symbolsOf s 1 width (o + 1 + d) ++ drop width d₀ → d′ ≡ symbolsAt s width o ++ drop width d₀
     unfolding symbolSize
     wrote-1 = drawn-symbols 1 (omega arith) (rw e)
 
   module _ (e : byteAt s o % 16 ≡ 1) where
+    -- the data of command 1
     pub data-2 : Packed s 2 width (o + 1 + d)
     unfolding symbolSize
     data-2 = drawn-data 2 (omega arith) (rw e)
 
+    -- its symbols are written
     pub wrote-2 : (d₀ d′ : List ℕ) → d′ ≡ symbolsOf s 2 width (o + 1 + d) ++ drop width d₀ → d′ ≡ symbolsAt s width o ++ drop width d₀
     unfolding symbolSize
     wrote-2 = drawn-symbols 2 (omega arith) (rw e)
 
   module _ (e : byteAt s o % 16 ≡ 2) where
+    -- the data of command 2
     pub data-4 : Packed s 4 width (o + 1 + d)
     unfolding symbolSize
     data-4 = drawn-data 4 (omega arith) (rw e)
 
+    -- its symbols are written
     pub wrote-4 : (d₀ d′ : List ℕ) → d′ ≡ symbolsOf s 4 width (o + 1 + d) ++ drop width d₀ → d′ ≡ symbolsAt s width o ++ drop width d₀
     unfolding symbolSize
     wrote-4 = drawn-symbols 4 (omega arith) (rw e)
 
 -- commands 3 to B: a symbol of the nine at every place
 module _ (s : List ℕ) (width o : ℕ) (k : Drawn s width o) (a : byteAt s o % 16 ≡ 0 → ⊥) (b : byteAt s o % 16 ≡ 1 → ⊥) (c : byteAt s o % 16 ≡ 2 → ⊥) where
+  -- the command less 3 is a code
   pub one-symbol : (3 ≤ byteAt s o % 16) × (byteAt s o % 16 - 3 < 9)
   unfolding commandOf
   one-symbol = let l = k .command in (omega arith, omega arith)
 
+  -- its symbol is written at every place
   pub wrote-all : (x : ℕ) → x ≡ symbolOf (byteAt s o % 16 - 3) → (d₀ d′ : List ℕ) → d′ ≡ replicate width x ++ drop width d₀ → d′ ≡ symbolsAt s width o ++ drop width d₀
   unfolding symbolsAt symbolSize commandOf
   wrote-all x ex d₀ d′ e = simp (ne-eqb _ 0 a, ne-eqb _ 1 b, ne-eqb _ 2 c) (e ∙ rw ex)

@@ -1,13 +1,11 @@
 -- The laws of zero-terminated bytes.
-use Prim.Native.Nat.{ℕ, zero, suc, _+_, _-_, _≤_, _<_}
-use mathlib.Core.Path.{_≡_, refl, sym, _∙_, ap}
-use mathlib.Core.List.{List, [], _∷_}
-use lib.ListN.{length, getD, take, drop, drop-of-length-le}
+use Prim.Native.Nat.{ℕ, suc, _+_, _-_, _≤_, _<_}
+use mathlib.Core.Path.{_≡_}
+use mathlib.Core.List.{List, _∷_}
+use lib.ListN.{length, take, drop-of-length-le}
 use lib.Seq.{slice, slice-cons, length-slice, length-take-le}
 use native.Mathlib.Omega.{arith}
 use native.Mathlib.Numerals.{add-one}
-use borrow.Author.Tests.{eq-eqb, ne-eqb}
-use Rattle.lxt_format.specs.Basics.{if_then_else_}
 use Rattle.lxt_format.specs.Bytes.{byteAt, toZero}
 use Rattle.lxt_format.specs.BytesLaws.{zero-later, toZero-le}
 
@@ -38,6 +36,7 @@ module _ (s : List ℕ) (from end p : ℕ) (w : Passed s from end p) where
       (omega arith, omega (arith, toZero-le (slice from end s), length-slice from end s (w .fits)))
 
   module _ (l : p < end) where
+    -- the next byte, and those after it
     here : slice p end s ≡ byteAt s p ∷ slice (suc p) end s
     here = slice-cons p end s 0 l (w .fits)
 

@@ -1,25 +1,25 @@
 -- The laws of times: a change's time by running sums, the limit of a time, and the latest change below it.
-use Prim.Native.Nat.{ℕ, zero, suc, _+_, _*_, _-_, _≤_, _<_, max}
+use Prim.Native.Nat.{ℕ, zero, suc, _+_, _*_, _≤_, _<_}
 use mathlib.Core.Path.{_≡_, refl, sym, _∙_, ap}
-use mathlib.Core.Bool.{Bool, true, false, not, _&&_}
+use mathlib.Core.Bool.{Bool, true, false, _&&_}
 use mathlib.Core.List.{List, [], _∷_}
 use lib.ListN.{length, getD, drop, drop-of-length-le}
-use lib.Seq.{drop-cons, drop-length}
-use lib.Dec.{leb, ltb, eqb}
+use lib.Seq.{drop-cons}
+use lib.Dec.{leb, ltb}
 use native.Mathlib.Omega.{arith}
 use native.Mathlib.Numerals.{add-one}
 use native.Mathlib.Decide.{decLe, ℕ-discrete}
 use borrow.Author.Tests.{le-leb, lt-leb, lt-ltb, le-ltb, leb-true, ne-eqb, eq-eqb}
 use Rattle.lxt_format.specs.Basics.{if_then_else_, all}
 use Rattle.lxt_format.specs.BasicsLaws.{and-both, on-test}
-use Rattle.lxt_format.specs.Bytes.{byteAt, u32At, u32sAt}
+use Rattle.lxt_format.specs.Bytes.{u32At, u32sAt}
 use Rattle.lxt_format.specs.BytesLaws.{AreBytes, u32-lt, length-u32s, getD-u32s}
 use Rattle.lxt_format.specs.Sections.{sectionOf, timeCount, endOf}
 use Rattle.lxt_format.specs.Times.{firstTime, lastTime, positionDeltas, timeDeltas, sumsFrom, positionsOf, timesOf, tableAllowed, timesAllowed, timeFrom, timeOf}
 use Rattle.lxt_format.specs.Changes.{dataAt, previousOf, chainWithin, chainOf}
-use Rattle.lxt_format.specs.ChangesLaws.{previous-lt, previous-le, chain-none, chain-more}
+use Rattle.lxt_format.specs.ChangesLaws.{previous-lt, chain-none, chain-more}
 use Rattle.lxt_format.specs.Values.{latestAt}
-use Rattle.lxt_values.specs.Times.{Times, Limit, Readable, no-change, change}
+use Rattle.lxt_values.specs.Times.{Times, Limit, Readable, change}
 
 -- ---- sums
 
@@ -59,6 +59,7 @@ bounded x (p ∷ ps) (t ∷ ts) o f b h k =
     let passed : timeFrom x ps ts o ≤ b = bounded x ps ts o f b h (both .1) in
     on-test (leb p o) (λ q. rw q taken) (λ q. rw q passed)
 
+-- the first time is bounded too
 first-le : (ts : List ℕ) (f b : ℕ) → all (λ t. leb f t && leb t b) ts ≡ true → getD ts 0 0 ≤ b
 unfolding all
 first-le [] f b k = omega arith
@@ -66,6 +67,7 @@ first-le (t ∷ ts) f b k = leb-true t b (and-both (leb f t) (leb t b) (and-both
 
 -- ---- the table in the file
 
+-- the first sum is the first delta
 first-sum : (t : ℕ) (es rest : List ℕ) → es ≡ t ∷ rest → t ≡ getD (sumsFrom 0 es) 0 0
 unfolding sumsFrom
 first-sum t es rest e = rw e (omega arith)
@@ -110,11 +112,12 @@ module _ (s : List ℕ) (times m : ℕ) (k : Times s times m) where
       ]
 
   module _ (i : ℕ) (h : i < m) where
-    -- the deltas of entry i
+    -- the position deltas from entry i on
     position-next : (p : ℕ) → p ≡ u32At s (times + 12 + 4 * i) → drop i (positionDeltas s) ≡ p ∷ drop (i + 1) (positionDeltas s)
     unfolding positionDeltas
     position-next p e = next-delta s (timeCount s) (sectionOf s 0x06 + 12) i p (rw (← k .count) h) (e ∙ rw (k .start))
 
+    -- the time deltas from entry i on
     time-next : (p : ℕ) → p ≡ u32At s (times + 12 + 4 * m + 4 * i) → drop i (timeDeltas s) ≡ p ∷ drop (i + 1) (timeDeltas s)
     unfolding timeDeltas
     time-next p e = next-delta s (timeCount s) (sectionOf s 0x06 + 12 + 4 * timeCount s) i p (rw (← k .count) h) (e ∙ rw (k .start, k .count))
@@ -148,9 +151,11 @@ pub record Sums (m i position time : ℕ) : Type 0 where
   pub positions : position ≤ 4294967295 * i
   pub times : time ≤ 4294967295 * i
 
+-- no entry is summed yet
 pub no-sums : (m : ℕ) → Sums m 0 0 0
 no-sums m = record { within = omega arith; positions = omega arith; times = omega arith }
 
+-- one entry more, whose deltas have 32 bits
 pub more-sums : (m i position time p e : ℕ) → Sums m i position time → i < m → p < 4294967296 → e < 4294967296 → Sums m (i + 1) (position + p) (time + e)
 more-sums m i position time p e w h a b =
     let l = w .positions in
@@ -163,10 +168,12 @@ pub record Timing (s : List ℕ) (m o i position time found : ℕ) : Type 0 wher
   pub left : timeLeft s i position time found o ≡ timeOf s o
 
 module _ (s : List ℕ) (times m : ℕ) (k : Times s times m) (o : ℕ) where
+  -- no entry is passed yet
   pub timing-begun : 0 < m → (t : ℕ) → t ≡ u32At s (times + 12 + 4 * m) → Timing s m o 0 0 0 t
   timing-begun h t e = record { sums = no-sums m; left = first-entry s times m k o t h e }
 
   module _ (i position time found : ℕ) (w : Timing s m o i position time found) where
+    -- all are passed
     pub timing-done : m ≤ i → found ≡ timeOf s o
     timing-done h = sym (no-more s times m k i o position time found h) ∙ w .left
 
@@ -233,6 +240,7 @@ module _ (s : List ℕ) (times m : ℕ) (k : Times s times m) (t : ℕ) where
         low o = let e = w .each o in rw (← e .left, no-more s times m k i o position time (e .found) h) (e .low)
 
     module _ (h : i < m) (p e : ℕ) (ep : p ≡ u32At s (times + 12 + 4 * i)) (ee : e ≡ u32At s (times + 12 + 4 * m + 4 * i)) where
+      -- one entry on, for every change
       step : (o : ℕ) → timeLeft s (i + 1) (position + p) (time + e) (if leb (position + p) o then time + e else w .each o .found) o ≡ timeOf s o
       step o = sym (entry s times m k i h o position time (w .each o .found) p e ep ee) ∙ w .each o .left
 
@@ -266,10 +274,11 @@ module _ (s : List ℕ) (times m : ℕ) (k : Times s times m) (t : ℕ) where
 
 -- ---- the way down a chain
 
--- a readable change, and the readable ones after it
+-- the delta of a readable change lies in the file
 head-readable : {s : List ℕ} {o : ℕ} {os : List ℕ} → Readable s (o ∷ os) → (o < length s) × (dataAt s o ≤ length s)
 head-readable (change a b r) = (a, b)
 
+-- the changes after a readable one
 tail-readable : {s : List ℕ} {o : ℕ} {os : List ℕ} → Readable s (o ∷ os) → Readable s os
 tail-readable (change a b r) = r
 
@@ -285,15 +294,17 @@ latest-within (suc k) s t o =
           simp (ne-eqb o 0 n) (on-test (leb (timeOf s o) t) (λ q. rw q (omega arith)) (λ q. rw q (omega arith))))
     ]
 
+-- the same of a whole chain
 latest-le : (s : List ℕ) (t o : ℕ) → latestAt s t (chainOf s o) ≤ o
 unfolding chainOf
 latest-le s t o = latest-within o s t o
 
--- a change with a time of at most t, above the others; one with a later time
+-- a change with a time of at most t, above the others, is the latest
 latest-taken : (s : List ℕ) (t o : ℕ) (os : List ℕ) → leb (timeOf s o) t ≡ true → latestAt s t os ≤ o → o ≡ latestAt s t (o ∷ os)
 unfolding latestAt
 latest-taken s t o os e h = rw e (omega arith)
 
+-- a change with a later time does not count
 latest-passed : (s : List ℕ) (t o : ℕ) (os : List ℕ) → leb (timeOf s o) t ≡ false → latestAt s t os ≡ latestAt s t (o ∷ os)
 unfolding latestAt
 latest-passed s t o os e = rw e
@@ -303,6 +314,7 @@ pub record Falling (s : List ℕ) (t from o : ℕ) : Type 0 where
   pub readable : Readable s (chainOf s o)
   pub left : latestAt s t (chainOf s o) ≡ latestAt s t (chainOf s from)
 
+-- at the start of the chain
 pub falling-begun : (s : List ℕ) (t from : ℕ) → Readable s (chainOf s from) → Falling s t from from
 falling-begun s t from r = record { readable = r; left = refl }
 
@@ -327,9 +339,11 @@ module _ (s : List ℕ) (t from o : ℕ) (w : Falling s t from o) where
             rw more (latest-taken s t o (chainOf s (previousOf s o)) low (omega arith))
 
     module _ (n : o ≡ 0 → ⊥) where
+      -- the change at o, and those before it
       more : chainOf s o ≡ o ∷ chainOf s (previousOf s o)
       more = chain-more s o (omega arith)
 
+      -- its delta can be read
       pub change-readable : (o < length s) × (dataAt s o ≤ length s)
       change-readable = head-readable (rw more at (w .readable))
 

@@ -1,9 +1,9 @@
 -- What the functions on reals ask, and that the real test of an accepted file gives it.
-use Prim.Native.Nat.{ℕ, zero, suc, _+_, _≤_, _<_}
-use mathlib.Core.Path.{_≡_, refl, sym, _∙_}
-use mathlib.Core.Bool.{Bool, true, false, not, _&&_, _||_}
+use Prim.Native.Nat.{ℕ, zero, suc, _<_}
+use mathlib.Core.Path.{_≡_}
+use mathlib.Core.Bool.{true, _&&_}
 use mathlib.Core.List.{List, [], _∷_, map}
-use lib.ListN.{length, getD}
+use lib.ListN.{getD}
 use lib.Dec.{ltb}
 use native.Mathlib.Omega.{arith}
 use borrow.Author.Tests.{ltb-true}
@@ -16,6 +16,7 @@ use Rattle.lxt_format.specs.Reals.{testPattern, placeOf, testBytes, isReorderin
 pub record Places (order : List ℕ) : Type 0 where
   pub place : (i : ℕ) → getD order i 0 < 8
 
+-- places of the bytes l in the test
 places-of : (test l : List ℕ) → all (λ b. ltb (placeOf b test) 8) l ≡ true → (i : ℕ) → getD (map (λ b. placeOf b test) l) i 0 < 8
 unfolding all
 places-of test [] h i = omega arith

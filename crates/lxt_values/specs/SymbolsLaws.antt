@@ -1,14 +1,14 @@
 -- A change of bits or of an integer that breaks no rule has symbols that can be written.
-use Prim.Native.Nat.{ℕ, _+_, _≤_, _<_}
-use mathlib.Core.Path.{_≡_, sym}
-use mathlib.Core.Bool.{Bool, true, false, _&&_, _||_, false≢true}
+use Prim.Native.Nat.{ℕ, _≤_}
+use mathlib.Core.Path.{_≡_}
+use mathlib.Core.Bool.{true, _||_, false≢true}
 use mathlib.Core.List.{List}
 use lib.ListN.{length}
-use lib.Dec.{leb, eqb}
+use lib.Dec.{eqb}
 use native.Mathlib.Omega.{arith}
 use borrow.Author.Tests.{leb-true, eqb-true, ne-eqb}
 use Rattle.lxt_format.specs.BasicsLaws.{and-both, or-either}
-use Rattle.lxt_format.specs.Changes.{commandOf, dataAt, commandAllowed, symbolSize, packedSize, codesAllowed, paddingAllowed, symbolsAllowed, dataSize, dataAllowed, changeEnd}
+use Rattle.lxt_format.specs.Changes.{commandAllowed, codesAllowed, paddingAllowed, symbolsAllowed, dataSize, dataAllowed, changeEnd}
 use Rattle.lxt_format.specs.ChangesLaws.{Sound}
 use Rattle.lxt_format.specs.declared.Kind.{Kind}
 use Rattle.lxt_format.specs.declared.Kind.the-variants.{Bits, Integer, Real, Text}

@@ -1,4 +1,3 @@
-use borrow.Author.Needs.{needs}
 use native.Mathlib.Omega.{arith}
 use Rattle.lxt_format.specs.ChangesLaws.{previous-lt}
 use Rattle.lxt_values.proofs.TimeLaws.{Falling, falling-begun, chain-ended, first-below, change-readable, falling-turn}
