@@ -1,3 +1,4 @@
 pub mod JudgeWays
 pub mod AskWays
 pub mod NameWays
+pub mod ChangeWays
