@@ -21,7 +21,8 @@ use Rattle.lxt_tables.specs.Stage.{Geometry, tablesOf}
 use Rattle.lxt_tables.specs.Asked.{Sync}
 use Rattle.lxt_tables.specs.declared.Tables.{Tables}
 use Rattle.lxt_tables.proofs.TablesLaws.{Known, known, root-in, root-plain}
-use Rattle.lxt_values.specs.Times.{Readable, no-change, change, chain-readable}
+use Rattle.lxt_values.specs.Times.{Readable, no-change, change}
+use Rattle.lxt_values.specs.TimesLaws.{chain-readable, change-sound}
 use Rattle.lxt_reader.specs.Asking.{Answers}
 use Rattle.lxt_reader.specs.Changing.{Followed, Chained, Looked}
 use Rattle.lxt_reader.specs.declared.facilities.Asked.{Asked}
@@ -98,15 +99,6 @@ module _ (s : List ℕ) (start o p : ℕ) (w : Seeking s start o p) where
     pub seek-falls : (q : ℕ) → q ≡ previousOf s p → q < p
     seek-falls q e = let l = previous-lt s p (omega arith) in omega arith
 
--- a member of a list without a fault has none
-member-fine : (g : ℕ → ℕ) (o : ℕ) (l : List ℕ) → firstFault (map g l) ≡ 0 → any (eqb o) l ≡ true → g o ≡ 0
-unfolding firstFault any
-member-fine g o [] h m = absurd (false≢true m)
-member-fine g o (x ∷ l) h m =
-    let both = neither (g x) (firstFault (map g l)) h in
-    let rest : any (eqb o) l ≡ true → g o ≡ 0 = λ k. member-fine g o l (both .1) k in
-    on-test (eqb o x) (λ e. rw (eqb-true o x e) (both .0)) (λ e. rest (rw e at m))
-
 -- ---- the ways out of `find_change`
 
 module _ (s : List ℕ) (f o : ℕ) (c : Chain) (w : Chained s f c) where
@@ -131,7 +123,7 @@ module _ (s : List ℕ) (f o : ℕ) (c : Chain) (w : Chained s f c) where
     unfolding faultFrom
     chain-reads =
         let k = tables-known s (c .tables) (w .tables) (followed .accepted) in
-        chain-readable s (changesFrom s) (endOf s) _ _ (c .start) (omega (arith, k .end-high, k .end)) (followed .fault)
+        chain-readable s (changesFrom s) (endOf s) _ _ (c .start) (followed .fault) (omega (arith, k .end-high, k .end))
 
     module _ (z : Bool) (ez : z ≡ any (eqb o) (chainOf s (c .start))) where
       on-chain-is : z ≡ any (eqb o) (chainAsked s f)
@@ -155,7 +147,7 @@ module _ (s : List ℕ) (f o : ℕ) (c : Chain) (w : Chained s f c) where
             refusal = h ∙ sym (rw (fine, ← on-chain-is, q));
             tables = w .tables;
             followed = λ k. followed;
-            sound = λ k. rw (followed .facts) (sound s (changesFrom s) (endOf s) _ _ o (member-fine _ o (chainOf s (c .start)) (followed .fault) (sym ez ∙ q)));
+            sound = λ k. rw (followed .facts) (change-sound s (changesFrom s) (endOf s) _ _ (c .start) (followed .fault) o (sym ez ∙ q));
           }
 
 -- ---- the change before

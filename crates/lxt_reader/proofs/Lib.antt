@@ -2,3 +2,4 @@ pub mod JudgeWays
 pub mod AskWays
 pub mod NameWays
 pub mod ChangeWays
+pub mod ValueWays
