@@ -1,33 +1,47 @@
 -- A law for each way out of the questions on values.
 use Prim.Native.Nat.{ℕ, zero, suc, _+_, _-_, _≤_, _<_}
 use mathlib.Core.Path.{_≡_, refl, sym, _∙_, ap}
-use mathlib.Core.Bool.{Bool, true, false}
+use mathlib.Core.Bool.{Bool, true, false, not, _&&_}
 use mathlib.Core.List.{List, [], _∷_, _++_, map}
 use lib.ListN.{length, drop, replicate, length-map, length-replicate}
 use lib.Seq.{slice}
 use lib.Ieee.{Float}
-use lib.Dec.{lit<}
+use lib.Dec.{ltb, leb, eqb, lit<}
 use native.Mathlib.Omega.{arith}
 use native.Mathlib.Decide.{ℕ-discrete}
-use borrow.Author.Tests.{eq-eqb, ne-eqb}
-use Rattle.lxt_format.specs.Basics.{if_then_else_, Answer, given, refused}
-use Rattle.lxt_format.specs.Bytes.{toZero}
-use Rattle.lxt_format.specs.Sections.{changesFrom, endOf}
-use Rattle.lxt_format.specs.Reals.{byteOrder, bitsInOrder, realBits}
+use borrow.Author.Tests.{eq-eqb, ne-eqb, le-leb, lt-leb, leb-true, ltb-true, eqb-false}
+use Rattle.lxt_format.specs.Basics.{if_then_else_, _unless_, _orElse_, Answer, given, refused, answer, lentAfter, range, any, select}
+use Rattle.lxt_format.specs.BasicsLaws.{on-test, and-both, neither, kept, stops}
+use Rattle.lxt_format.specs.Bytes.{byteAt, toZero}
+use Rattle.lxt_format.specs.Sections.{sectionOf, present, facilityCount, changesFrom, endOf, initialOf}
+use Rattle.lxt_format.specs.Geometry.{isAlias, rootOf, rootsOf, syncOf, ownFacts, factsOf}
+use Rattle.lxt_format.specs.Times.{timeOf}
+use Rattle.lxt_format.specs.Reals.{byteOrder, bitsInOrder, realBits, isReal, hasReal}
 use Rattle.lxt_format.specs.Reals as R
-use Rattle.lxt_format.specs.Changes.{commandOf, deltaSize, dataAt, symbolSize, packedSize, codesAt, changeEnd, dataSize}
+use Rattle.lxt_format.specs.Changes.{commandOf, deltaSize, dataAt, symbolSize, packedSize, codesAt, changeEnd, dataSize, chainOf}
 use Rattle.lxt_format.specs.ChangesLaws.{Sound}
-use Rattle.lxt_format.specs.Values.{Content, bits, real, text, notDriven, symbolOf, symbolsAt, contentBy}
-use Rattle.lxt_format.specs.Answers.{Shown, bitsOf, realOf, textOf, nothing, shown, valueSays}
-use Rattle.lxt_format.specs.Questions.{written, holdingBits}
+use Rattle.lxt_format.specs.Values.{Content, bits, real, text, notDriven, symbolOf, symbolsAt, contentBy, contentOf, latestAt, changeAt, initialBy, contentAt}
+use Rattle.lxt_format.specs.Answers.{Shown, bitsOf, realOf, textOf, nothing, shown, valueSays, timedSays}
+use Rattle.lxt_format.specs.Questions.{written, holdingBits, facilityRefusal, changeRefusal, readingRefusal, changeAsked, changeBuffer, valueRefusal, valueAsked, valueBuffer, chainAsked}
+use Rattle.lxt_format.specs.Judge.{fileRefusal, faultFrom}
+use Rattle.lxt_format.specs.declared.TimedValue.{TimedValue}
 use Rattle.lxt_format.specs.declared.Kind.{Kind}
 use Rattle.lxt_format.specs.declared.Kind.the-variants.{Bits, Integer, Real, Text}
 use Rattle.lxt_changes.specs.Faults.{symbolic}
 use Rattle.lxt_values.specs.Symbols.{Drawn, Packed}
 use Rattle.lxt_values.proofs.SymbolLaws.{Sizes, by-1, by-2, by-4, symbols-length}
 use Rattle.lxt_values.specs.SymbolsLaws.{sound-drawn}
-use Rattle.lxt_values.specs.Reals.{Places}
-use Rattle.lxt_reader.specs.Reading.{Readies}
+use Rattle.lxt_values.specs.Reals.{Places, order-places}
+use Rattle.lxt_values.specs.Times as Ti
+use Rattle.lxt_values.specs.Times.{Readable}
+use Rattle.lxt_values.specs.TimesLaws.{chain-readable, latest-change-sound}
+use Rattle.lxt_tables.specs.Stage.{tablesOf}
+use Rattle.lxt_tables.specs.declared.Tables.{Tables}
+use Rattle.lxt_tables.proofs.TablesLaws.{Known, root-in, root-plain}
+use Rattle.lxt_reader.specs.Changing.{Followed, Chained, Looked}
+use Rattle.lxt_reader.specs.declared.changes.Chain.{Chain}
+use Rattle.lxt_reader.proofs.AskWays.{tables-known}
+use Rattle.lxt_reader.specs.Reading.{Readies, startContent}
 
 -- ---- symbols
 
@@ -135,3 +149,219 @@ module _ (s : List ℕ) (end : ℕ) (order : List ℕ) (kind : Kind) (width o ro
           → (given (textOf (o + 1 + d) n) ≡ given (shown (contentBy s kind width o))) × (before ≡ holdingBits (contentBy s kind width o) before)
       unfolding contentBy holdingBits written
       text-read before = (rw (e, en, at-is, w .limit), rw e)
+
+-- ---- before the first change
+
+filled : (width x : ℕ) (before after : List ℕ) → after ≡ replicate width x ++ drop width before
+    → (given (bitsOf width) ≡ given (shown (bits (replicate width x)))) × (after ≡ holdingBits (bits (replicate width x)) before)
+unfolding holdingBits written
+filled width x before after h = (rw (length-replicate width x), h ∙ rw (length-replicate width x))
+
+module _ (kind : Kind) (width code : ℕ) where
+  pub bits-start : kind ≡ Bits → (x : ℕ) → x ≡ symbolOf code → (before after : List ℕ) → after ≡ replicate width x ++ drop width before
+      → (given (bitsOf width) ≡ given (shown (startContent kind width code))) × (after ≡ holdingBits (startContent kind width code) before)
+  unfolding startContent
+  bits-start e x ex before after h = rw (e, ← ex) (filled width x before after h)
+
+  pub integer-start : kind ≡ Integer → (x : ℕ) → x ≡ symbolOf code → (before after : List ℕ) → after ≡ replicate width x ++ drop width before
+      → (given (bitsOf width) ≡ given (shown (startContent kind width code))) × (after ≡ holdingBits (startContent kind width code) before)
+  unfolding startContent
+  integer-start e x ex before after h = rw (e, ← ex) (filled width x before after h)
+
+  pub real-start : kind ≡ Real → (before : List ℕ) → (given nothing ≡ given (shown (startContent kind width code))) × (before ≡ holdingBits (startContent kind width code) before)
+  unfolding startContent holdingBits written
+  real-start e before = (rw e, rw e)
+
+  pub text-start : kind ≡ Text → (before : List ℕ) → (given nothing ≡ given (shown (startContent kind width code))) × (before ≡ holdingBits (startContent kind width code) before)
+  unfolding startContent holdingBits written
+  text-start e before = (rw e, rw e)
+
+start-is : (s : List ℕ) (kind : Kind) (width : ℕ) → startContent kind width (initialOf s) ≡ initialBy s kind width
+unfolding startContent initialBy
+start-is s Bits width = refl
+start-is s Integer width = refl
+start-is s Real width = refl
+start-is s Text width = refl
+
+-- ---- the byte order of reals, where a root is real
+
+any-root : (q : ℕ → Bool) (p : ℕ → Bool) (i k f : ℕ) → i ≤ f → f < i + k → p f ≡ true → q f ≡ true → any q (select p (range i k)) ≡ true
+unfolding any select range
+any-root q p i zero f a b h g = absurd (omega arith)
+any-root q p i (suc k) f a b h g =
+    let more : suc i ≤ f → any q (select p (range (suc i) k)) ≡ true = λ l. any-root q p (suc i) k f l (omega arith) h g in
+    elim (ℕ-discrete f i) [
+      | yes e ↦ (let hp : p i ≡ true = rw e at h in let hq : q i ≡ true = rw e at g in rw (hp, hq))
+      | no n ↦ on-test (p i) (λ e. rw e (on-test (q i) (λ d. rw d) (λ d. rw d (more (omega arith))))) (λ e. rw e (more (omega arith)))
+    ]
+
+module _ (s : List ℕ) (r : ℕ) (below : r < facilityCount s) (plain : isAlias s r ≡ false) (real-kind : ownFacts s r .kind ≡ Real) where
+  has-real : hasReal s ≡ true
+  unfolding hasReal rootsOf isReal
+  has-real = any-root (λ f. isReal (ownFacts s f .kind)) (λ f. not (isAlias s f)) 0 (facilityCount s) r (omega arith) (omega arith) (rw plain) (rw real-kind)
+
+  order-is : (t : Tables) → Known s t → t .order ≡ byteOrder s
+  order-is t k = k .order ∙ rw has-real
+
+  order-there : (t : Tables) → Known s t → Places (t .order)
+  order-there t k = rw (order-is t k) (order-places s has-real (k .passed .real-test))
+
+-- the code of the initial symbol is that of a symbol
+initial-small : (s : List ℕ) → initialOf s < 9
+unfolding initialOf
+initial-small s =
+    let code : ℕ = byteAt s (sectionOf s 0x07) in
+    on-test (present s 0x07 && leb code 8) (λ h. rw h (let l = leb-true code 8 (and-both (present s 0x07) (leb code 8) h .1) in omega arith)) (λ h. rw h (lit< tt))
+
+-- ---- a chain that was asked about
+
+pub below-of : (s : List ℕ) (f : ℕ) → facilityRefusal s f ≡ 0 → f < facilityCount s
+unfolding facilityRefusal
+below-of s f h = ltb-true _ _ (kept 18 _ (lit< tt) (neither (fileRefusal s) (18 unless ltb f (facilityCount s)) h .1))
+
+module _ (s : List ℕ) (f : ℕ) (c : Chain) (e : c .tables ≡ tablesOf s) (fine : facilityRefusal s f ≡ 0) (l : Followed s f c) where
+  pub tables-are : Known s (c .tables)
+  tables-are = tables-known s (c .tables) e (l .accepted)
+
+  pub times-there : Ti.Times s (c .tables .times) (c .tables .«time_count»)
+  times-there =
+      let k = tables-are in
+      record { start = k .times; count = k .time-count; inside = omega (arith, k .times-at .inside); allowed = k .passed .times }
+
+  pub chain-there : Readable s (chainOf s (c .start))
+  unfolding faultFrom
+  chain-there =
+      let k = tables-are in
+      chain-readable s (changesFrom s) (endOf s) _ _ (c .start) (l .fault) (omega (arith, k .end-high, k .end))
+
+  pub readies : (o room : ℕ) → Sound s (changesFrom s) (endOf s) (c .facts .kind) (c .facts .width) o → c .facts .width ≤ room
+      → Readies s (c .tables .end) (c .tables .order) (c .facts .kind) (c .facts .width) o room
+  unfolding factsOf
+  readies o room sound enough =
+      let k = tables-are in
+      let below = below-of s f fine in
+      let r = root-in s (k .passed) f below in
+      let p = root-plain s (k .passed) f below in
+      record {
+        sound = sound;
+        limit = k .end;
+        within = omega (arith, k .end-high);
+        short = k .long;
+        ordered = λ q. order-is s (rootOf s f) r p (rw (l .facts) at q) (c .tables) k;
+        places = λ q. order-there s (rootOf s f) r p (rw (l .facts) at q) (c .tables) k;
+        enough = enough;
+      }
+
+  pub content-is : (o : ℕ) → contentBy s (c .facts .kind) (c .facts .width) o ≡ contentOf s (rootOf s f) o
+  unfolding contentOf factsOf
+  content-is o = rw (l .facts)
+
+-- ---- a change's time and value
+
+module _ (s : List ℕ) (f o : ℕ) (buffer : List ℕ) (c : Chain) (w : Looked s f o c) where
+  says : (refusal : ℕ) → readingRefusal s f o (length buffer) ≡ refusal → (refusal ≡ 0 → ⊥)
+      → (_≡_ {A = ℕ × Answer Shown} (0, refused refusal) (changeAsked s f o (length buffer))) × (buffer ≡ changeBuffer s f o buffer)
+  unfolding changeAsked changeBuffer
+  says refusal e n = (sym (rw e (simp (ne-eqb refusal 0 n))), sym (rw e (simp (ne-eqb refusal 0 n))))
+
+  pub change-refused : (c .refusal ≡ 0 → ⊥) → (r : TimedValue) → timedSays r ≡ (0, refused (c .refusal))
+      → (timedSays r ≡ changeAsked s f o (length buffer)) × (buffer ≡ changeBuffer s f o buffer)
+  unfolding readingRefusal
+  change-refused n r q =
+      let a = says (c .refusal) (rw (← w .refusal) (stops (c .refusal) _ n)) n in
+      (q ∙ a .0, a .1)
+
+  module _ (h : c .refusal ≡ 0) where
+    change-fine : changeRefusal s f o ≡ 0
+    change-fine = sym (w .refusal) ∙ h
+
+    pub facility-fine : facilityRefusal s f ≡ 0
+    unfolding changeRefusal
+    facility-fine = neither (facilityRefusal s f) (19 unless any (eqb o) (chainAsked s f)) change-fine .0
+
+    pub change-short : length buffer < c .facts .width → (r : TimedValue) → timedSays r ≡ (0, refused 21)
+        → (timedSays r ≡ changeAsked s f o (length buffer)) × (buffer ≡ changeBuffer s f o buffer)
+    unfolding readingRefusal
+    change-short short r q =
+        let g : length buffer < factsOf s f .width = rw (w .followed h .facts) at short in
+        let a = says 21 (rw (change-fine, lt-leb _ _ g)) (eqb-false 21 0 refl) in
+        (q ∙ a .0, a .1)
+
+    pub change-given : c .facts .width ≤ length buffer → (time : ℕ) → time ≡ timeOf s o → (v : Answer Shown) (after : List ℕ)
+        → v ≡ given (shown (contentBy s (c .facts .kind) (c .facts .width) o)) → after ≡ holdingBits (contentBy s (c .facts .kind) (c .facts .width) o) buffer
+        → (_≡_ {A = ℕ × Answer Shown} (time, v) (changeAsked s f o (length buffer))) × (after ≡ changeBuffer s f o buffer)
+    unfolding readingRefusal changeAsked changeBuffer
+    change-given room time et v after ev ea =
+        let g : factsOf s f .width ≤ length buffer = rw (w .followed h .facts) at room in
+        let i = content-is s f c (w .tables) facility-fine (w .followed h) o in
+        (rw (change-fine, le-leb _ _ g, et, ev, i), ea ∙ rw (change-fine, le-leb _ _ g, i))
+
+-- ---- the value at a time
+
+module _ (s : List ℕ) (f t : ℕ) (buffer : List ℕ) (c : Chain) (w : Chained s f c) where
+  tells : (refusal : ℕ) → valueRefusal s f (length buffer) ≡ refusal → (refusal ≡ 0 → ⊥)
+      → (refused refusal ≡ valueAsked s f t (length buffer)) × (buffer ≡ valueBuffer s f t buffer)
+  unfolding valueAsked valueBuffer
+  tells refusal e n = (sym (rw e (simp (ne-eqb refusal 0 n))), sym (rw e (simp (ne-eqb refusal 0 n))))
+
+  pub value-refused : (c .refusal ≡ 0 → ⊥) → (refused (c .refusal) ≡ valueAsked s f t (length buffer)) × (buffer ≡ valueBuffer s f t buffer)
+  unfolding valueRefusal
+  value-refused n = tells (c .refusal) (rw (← w .refusal) (stops (c .refusal) _ n)) n
+
+  module _ (h : c .refusal ≡ 0) where
+    asked-fine : facilityRefusal s f ≡ 0
+    asked-fine = sym (w .refusal) ∙ h
+
+    pub value-short : length buffer < c .facts .width → (refused 21 ≡ valueAsked s f t (length buffer)) × (buffer ≡ valueBuffer s f t buffer)
+    unfolding valueRefusal
+    value-short short =
+        let g : length buffer < factsOf s f .width = rw (w .followed h .facts) at short in
+        tells 21 (rw (asked-fine, lt-leb _ _ g)) (eqb-false 21 0 refl)
+
+    pub latest-asks : Ti.Times s (c .tables .times) (c .tables .«time_count») × Readable s (chainOf s (c .start))
+    latest-asks = (times-there s f c (w .tables) asked-fine (w .followed h), chain-there s f c (w .tables) asked-fine (w .followed h))
+
+    module _ (room : c .facts .width ≤ length buffer) where
+      pub start-asks : (c .tables .initial < 9) × (c .facts .width ≤ length buffer)
+      start-asks = (rw (tables-are s f c (w .tables) asked-fine (w .followed h) .initial) (initial-small s), room)
+
+      module _ (o : ℕ) (eo : o ≡ latestAt s t (chainOf s (c .start))) where
+        change-is : o ≡ changeAt s (rootOf s f) t
+        unfolding changeAt
+        change-is = eo ∙ rw (w .followed h .start)
+
+        value-is : (content : Content) → content ≡ contentAt s (rootOf s f) t → (v : Answer Shown) (after : List ℕ)
+            → v ≡ given (shown content) → after ≡ holdingBits content buffer → (v ≡ valueAsked s f t (length buffer)) × (after ≡ valueBuffer s f t buffer)
+        unfolding valueRefusal valueAsked valueBuffer
+        value-is content ec v after ev ea =
+            let g : factsOf s f .width ≤ length buffer = rw (w .followed h .facts) at room in
+            (ev ∙ rw (asked-fine, le-leb _ _ g, ec), ea ∙ rw (asked-fine, le-leb _ _ g, ec))
+
+        pub value-start : o ≡ 0 → (v : Answer Shown) (after : List ℕ) → v ≡ given (shown (startContent (c .facts .kind) (c .facts .width) (c .tables .initial)))
+            → after ≡ holdingBits (startContent (c .facts .kind) (c .facts .width) (c .tables .initial)) buffer
+            → (v ≡ valueAsked s f t (length buffer)) × (after ≡ valueBuffer s f t buffer)
+        unfolding contentAt factsOf
+        value-start z v after ev ea =
+            let k = tables-are s f c (w .tables) asked-fine (w .followed h) in
+            let a : startContent (c .facts .kind) (c .facts .width) (c .tables .initial) ≡ initialBy s (c .facts .kind) (c .facts .width) =
+            rw (k .initial) (start-is s (c .facts .kind) (c .facts .width)) in
+            let b : initialBy s (c .facts .kind) (c .facts .width) ≡ contentAt s (rootOf s f) t = rw (w .followed h .facts, ← change-is, z) in
+            value-is (startContent (c .facts .kind) (c .facts .width) (c .tables .initial)) (a ∙ b) v after ev ea
+
+        module _ (some : o ≡ 0 → ⊥) where
+          latest-fine : Sound s (changesFrom s) (endOf s) (c .facts .kind) (c .facts .width) o
+          unfolding faultFrom factsOf
+          latest-fine =
+              rw (eo, w .followed h .facts)
+              (latest-change-sound s (changesFrom s) (endOf s) _ _ (c .start) (w .followed h .fault) t (λ z. some (eo ∙ z)))
+
+          pub value-readies : Readies s (c .tables .end) (c .tables .order) (c .facts .kind) (c .facts .width) o (length buffer)
+          value-readies = readies s f c (w .tables) asked-fine (w .followed h) o (length buffer) latest-fine room
+
+          pub value-given : (v : Answer Shown) (after : List ℕ) → v ≡ given (shown (contentBy s (c .facts .kind) (c .facts .width) o))
+              → after ≡ holdingBits (contentBy s (c .facts .kind) (c .facts .width) o) buffer
+              → (v ≡ valueAsked s f t (length buffer)) × (after ≡ valueBuffer s f t buffer)
+          unfolding contentAt
+          value-given v after ev ea =
+              value-is (contentBy s (c .facts .kind) (c .facts .width) o)
+              (content-is s f c (w .tables) asked-fine (w .followed h) o ∙ rw (← change-is) (sym (simp (ne-eqb o 0 some)))) v after ev ea

@@ -1,11 +1,12 @@
 // The values of changes, and the value at a time.
 ghost use mathlib.Core.Path.{_≡_};
+ghost use Prim.Native.Nat.{_≤_, _<_};
 ghost use lib.ListN.{length};
-ghost use Rattle.lxt_format.specs.Basics.{given};
-ghost use Rattle.lxt_format.specs.Values.{contentBy, initialBy};
+ghost use Rattle.lxt_format.specs.Basics.{given, refused};
+ghost use Rattle.lxt_format.specs.Values.{contentBy};
 ghost use Rattle.lxt_format.specs.Answers.{shown, valueSays, timedSays};
 ghost use Rattle.lxt_format.specs.Questions.{holdingBits, changeAsked, changeBuffer, valueAsked, valueBuffer};
-ghost use Rattle.lxt_reader.specs.Reading.{Readies};
+ghost use Rattle.lxt_reader.specs.Reading.{Readies, startContent};
 use crate::changes;
 use lxt_changes::delta;
 use lxt_format::Kind;
@@ -52,4 +53,75 @@ fn read(
             length: texts::length(file, at, end) as u32,
         },
     }
+}
+
+// What a facility shows before its first change: the initial symbol at every place, or nothing.
+fn initial(kind: Kind, width: u32, code: u8, bits: &mut [u8]) -> Value
+    requires { ⌜ (code < 9) × (width ≤ length (now bits)) ⌝ }
+    ensures { λ r. ⌜ (valueSays r ≡ given (shown (startContent kind width code))) × (now (bits .exit) ≡ holdingBits (startContent kind width code) (now (bits .entry))) ⌝ }
+{
+    match kind {
+        Kind::Bits => {
+            symbols::fill(width, symbols::symbol_of(code), bits);
+            Value::Bits { width: width }
+        }
+        Kind::Integer => {
+            symbols::fill(width, symbols::symbol_of(code), bits);
+            Value::Bits { width: width }
+        }
+        Kind::Real => Value::NotDriven,
+        Kind::Text => Value::NotDriven,
+    }
+}
+
+fn no_change(n: u8) -> TimedValue
+    ensures { λ r. ⌜ timedSays r ≡ (0, refused n) ⌝ }
+{
+    TimedValue {
+        time: 0,
+        value: Value::Refused(n),
+    }
+}
+
+// A change's time and value; its symbols fill the first bytes of the lent buffer.
+pub fn of_change(file: &[u8], facility: u32, offset: u32, bits: &mut [u8]) -> TimedValue
+    ensures { λ r. ⌜ (timedSays r ≡ changeAsked (now (file .entry)) facility offset (length (now (bits .entry)))) × (now (bits .exit) ≡ changeBuffer (now (file .entry)) facility offset (now (bits .entry))) ⌝ }
+{
+    let c = changes::find_change(file, facility, offset);
+    if c.refusal != 0 {
+        return no_change(c.refusal);
+    }
+    let facts = c.facts;
+    let kind = facts.kind;
+    if bits.len() < facts.width as usize {
+        return no_change(21);
+    }
+    let t = c.tables;
+    let order = t.order;
+    let o = offset as usize;
+    let time = times::time_of(file, t.times as usize, t.time_count, o);
+    let value = read(file, t.end, order, kind, facts.width, o, bits);
+    TimedValue { time, value }
+}
+
+// The value at a time, by the latest change; its symbols fill the first bytes of the lent buffer.
+pub fn at_time(file: &[u8], facility: u32, time: u32, bits: &mut [u8]) -> Value
+    ensures { λ r. ⌜ (valueSays r ≡ valueAsked (now (file .entry)) facility time (length (now (bits .entry)))) × (now (bits .exit) ≡ valueBuffer (now (file .entry)) facility time (now (bits .entry))) ⌝ }
+{
+    let c = changes::find_chain(file, facility);
+    if c.refusal != 0 {
+        return Value::Refused(c.refusal);
+    }
+    let facts = c.facts;
+    let kind = facts.kind;
+    if bits.len() < facts.width as usize {
+        return Value::Refused(21);
+    }
+    let t = c.tables;
+    let o = times::latest(file, t.times as usize, t.time_count, c.start as usize, time);
+    if o == 0 {
+        return initial(kind, facts.width, t.initial, bits);
+    }
+    let order = t.order;
+    read(file, t.end, order, kind, facts.width, o, bits)
 }
