@@ -2,7 +2,7 @@
 ghost use mathlib.Core.Path.{_≡_};
 ghost use Prim.Native.Nat.{_≤_, _<_};
 ghost use lib.Dec.{leb};
-ghost use lib.ListN.{length, drop};
+ghost use lib.ListN.{drop};
 ghost use Rattle.lxt_format.specs.Sections.{endOf};
 ghost use Rattle.lxt_format.specs.Judge.{endAt, changesApart, chainsRefusal};
 ghost use Rattle.lxt_format.specs.Walk.{sort};

@@ -18,10 +18,15 @@ array-borrow-prefix-nodes : tie.Need-array-borrow-prefix-nodes
 array-borrow-prefix-nodes c = search needs
 
 slice-aggregate-apart-within : tie.Need-slice-aggregate-apart-within
-slice-aggregate-apart-within c = let l = c .before .leaves-for .ensures in sym (zeros-long 8192 _ _ l (omega (arith, l .most)))
+slice-aggregate-apart-within c =
+    let l = c .before .leaves-for .ensures in
+    sym (zeros-long 8192 _ _ l (omega (arith, l .most)))
 
 apart-within-requires : tie.Need-apart-within-requires
-apart-within-requires c κs = let l = c .before .leaves-for .ensures in let pre = c .before .before .before .before .pre in (pre .0, (pre .1, (l .enough, zeros-blank 8192 _ _ l (omega (arith, l .most)))))
+apart-within-requires c κs =
+    let l = c .before .leaves-for .ensures in
+    let pre = c .before .before .before .before .pre in
+    (pre .0, (pre .1, (l .enough, zeros-blank 8192 _ _ l (omega (arith, l .most)))))
 
 returns : tie.Need-returns
 returns c = search needs
