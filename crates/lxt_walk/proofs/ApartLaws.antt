@@ -3,11 +3,11 @@ use Prim.Native.Nat.{ℕ, zero, suc, _+_, _-_, _≤_, _<_}
 use mathlib.Core.Path.{_≡_, refl, sym, _∙_, ap}
 use mathlib.Core.Bool.{Bool, true, false, _&&_}
 use mathlib.Core.List.{List, [], _∷_, map}
-use lib.ListN.{length, getD, set, take, drop, length-set}
-use lib.Seq.{getD-set-same, getD-set-other, ext-getD}
+use lib.ListN.{length, getD, set, drop, length-set, List·getD-eq-default}
+use lib.Seq.{getD-set-same, getD-set-other, getD-drop}
 use lib.Dec.{leb}
 use native.Mathlib.Omega.{arith}
-use native.Mathlib.Decide.{ℕ-discrete}
+use native.Mathlib.Decide.{decLe, ℕ-discrete}
 use Rattle.lxt_format.specs.Basics.{if_then_else_}
 use Rattle.lxt_format.specs.Sections.{facilityCount, changesFrom, endOf}
 use Rattle.lxt_format.specs.Geometry.{isAlias, syncOf, ownFacts}
@@ -18,11 +18,12 @@ use Rattle.lxt_format.specs.Walk.{sort, top, high, step}
 use Rattle.lxt_walk.specs.Pending.{pairOf, pendingChanges, rootOffsets}
 use Rattle.lxt_walk.specs.Lists.{Each}
 use Rattle.lxt_walk.specs.Sorted.{each-sort}
-use Rattle.lxt_walk.specs.Step.{top-lt, length-left}
+use Rattle.lxt_walk.specs.Step.{changes-none, length-left}
 use Rattle.lxt_walk.specs.Bridge.{all-roots, length-roots, getD-roots}
 use Rattle.lxt_walk.specs.Check17.{stacked, stacked-quiet, stacked-step, each-step}
 use Rattle.lxt_walk.specs.Accepted.{Allowed, all-allowed, allowed-sound, apart-stacked}
 use Rattle.lxt_walk.specs.Reading.{Ready, Stepping, Pending, rootOffset}
+use Rattle.lxt_walk.specs.Tree.{Room, Blank, Holding}
 use Rattle.lxt_walk.specs.declared.chains.Chains.{Chains}
 
 -- what is left to test below a bound gives what the whole gives
@@ -43,7 +44,10 @@ module _ (s : List ℕ) (c : Chains) (os₀ : List ℕ) (bound : ℕ) (os : List
     positive = omega arith
 
     pub number-below : f < c .facilities
-    number-below = let l = top-lt os positive in let n = v .pending .long in omega arith
+    number-below = elim (decLe (c .facilities) f) [
+      | yes q ↦ let z = v .pending .past (top os) (rw ef at q) in absurd (omega arith)
+      | no q ↦ omega arith
+    ]
 
     allowed : Allowed s (pairOf f o)
     allowed = rw (ef, eo) (each-step s os positive (v .pending .each) .0)
@@ -79,18 +83,23 @@ module _ (s : List ℕ) (c : Chains) (os₀ : List ℕ) (bound : ℕ) (os : List
       pub overlap : z ≡ false → false ≡ stacked (endAt s) (endOf s) (sort (pendingChanges s 0 os₀))
       overlap h = sym (here ∙ rw h) ∙ v .same
 
-      pub next-change : z ≡ true → (p : ℕ) → p ≡ previousOf s o → Sweeping s c os₀ o (set os f p)
-      next-change h p ep =
-          let e : set os f p ≡ step s os = (unfold step in rw (ef, ep, eo)) in
+      pub next-change : z ≡ true → (p : ℕ) → p ≡ previousOf s o → (os′ : List ℕ) → os′ ≡ set os f p → Sweeping s c os₀ o os′
+      next-change h p ep os′ es =
+          let e : os′ ≡ step s os = es ∙ (unfold step in rw (ef, ep, eo)) in
+          let b = number-below in
           record {
             same = rw e (sym (here ∙ rw h) ∙ v .same);
             bounded = let a = stepping .offset in omega arith;
-            pending = record { long = length-set os f p ∙ v .pending .long; each = rw e (each-step s os positive (v .pending .each) .1) };
+            pending = record {
+              past = λ i k. rw es (getD-set-other os f i p 0 (λ q. omega arith) ∙ v .pending .past i k);
+              each = rw e (each-step s os positive (v .pending .each) .1);
+            };
           }
 
-    pub fewer-left : (p : ℕ) → p ≡ previousOf s o → length (sort (pendingChanges s 0 (set os f p))) < length (sort (pendingChanges s 0 os))
-    fewer-left p ep =
-        let e : set os f p ≡ step s os = (unfold step in rw (ef, ep, eo)) in
+    pub fewer-left : (p : ℕ) → p ≡ previousOf s o → (os′ : List ℕ) → os′ ≡ set os f p
+        → length (sort (pendingChanges s 0 os′)) < length (sort (pendingChanges s 0 os))
+    fewer-left p ep os′ es =
+        let e : os′ ≡ step s os = es ∙ (unfold step in rw (ef, ep, eo)) in
         let l = length-left s os positive in
         rw e (omega arith)
 
@@ -105,43 +114,71 @@ module _ (s : List ℕ) (f : ℕ) (a : Bool) (ea : a ≡ isAlias s f) where
   unfolding rootOffset
   sync-offset h o eo = eo ∙ rw (← ea, h)
 
--- the offsets of the first f facilities are there
-pub record Filled (s : List ℕ) (n f : ℕ) (os : List ℕ) : Type 0 where
+-- the offsets of the first f facilities are in the leaves, and 0 past them
+pub record Filled (s : List ℕ) (n m f : ℕ) (nodes : List ℕ) : Type 0 where
   pub upto : f ≤ n
-  pub long : length os ≡ n
-  pub there : (i : ℕ) → i < f → getD os i 0 ≡ rootOffset s i
+  pub fits : n ≤ m
+  pub room : Room m nodes
+  pub there : (i : ℕ) → i < f → getD nodes (m + i) 0 ≡ rootOffset s i
+  pub rest : (i : ℕ) → f ≤ i → getD nodes (m + i) 0 ≡ 0
 
-pub fill-begun : (s : List ℕ) (n : ℕ) (os : List ℕ) → length os ≡ n → Filled s n 0 os
-fill-begun s n os e = record { upto = omega arith; long = e; there = λ i h. absurd (omega arith) }
+pub fill-begun : (s : List ℕ) (n m : ℕ) (nodes : List ℕ) → n ≤ m → Blank m nodes → Filled s n m 0 nodes
+fill-begun s n m nodes h b =
+    record { upto = omega arith; fits = h; room = b .room; there = λ i k. absurd (omega arith); rest = λ i k. b .none (m + i) }
 
-module _ (s : List ℕ) (n f : ℕ) (os : List ℕ) (w : Filled s n f os) where
-  pub fill-next : f < n → (o : ℕ) → o ≡ rootOffset s f → Filled s n (f + 1) (set os f o)
+module _ (s : List ℕ) (n m f : ℕ) (nodes : List ℕ) (w : Filled s n m f nodes) where
+  pub fill-next : f < n → (o : ℕ) → o ≡ rootOffset s f → Filled s n m (f + 1) (set nodes (m + f) o)
   fill-next h o eo =
-      let l = w .long in
+      let l = w .room .long in
+      let k = w .fits in
       record {
         upto = omega arith;
-        long = length-set os f o ∙ w .long;
-        there = λ i k. elim (ℕ-discrete i f) [
-          | yes e ↦ rw e (getD-set-same os f o 0 (omega arith) ∙ eo)
-          | no m ↦ getD-set-other os f i o 0 m ∙ w .there i (omega arith)
+        fits = w .fits;
+        room = record { long = length-set nodes (m + f) o ∙ l; level = w .room .level };
+        there = λ i b. elim (ℕ-discrete i f) [
+          | yes e ↦ rw e (getD-set-same nodes (m + f) o 0 (omega arith) ∙ eo)
+          | no d ↦ getD-set-other nodes (m + f) (m + i) o 0 (λ q. d (omega arith)) ∙ w .there i (omega arith)
         ];
+        rest = λ i b. getD-set-other nodes (m + f) (m + i) o 0 (λ q. omega arith) ∙ w .rest i (omega arith);
       }
 
-  pub fill-ended : (c : Chains) → Ready s c → c .facilities ≡ n → n ≤ f → os ≡ rootOffsets s
+  pub fill-ended : (c : Chains) → Ready s c → c .facilities ≡ n → n ≤ f → Holding (rootOffsets s) m nodes
   unfolding rootOffset
   fill-ended c r e h =
-      let l = w .long in
       let k = r .geometry .count in
       let u = w .upto in
-      ext-getD 0 os (rootOffsets s) (omega (arith, length-roots s)) (λ i g. w .there i (omega arith) ∙ sym (getD-roots s i (omega arith)))
+      let long = length-roots s in
+      record {
+        room = w .room;
+        leaves = λ i. getD-drop m nodes i 0
+            ∙ elim (decLe n i) [
+              | yes q ↦ w .rest i (omega arith) ∙ sym (List·getD-eq-default (rootOffsets s) 0 {n = i} (omega arith))
+              | no q ↦ w .there i (omega arith) ∙ sym (getD-roots s i (omega arith))
+            ];
+      }
 
 -- ---- the whole check
 
-pub pending-roots : (s : List ℕ) (c : Chains) → Ready s c → chainsRefusal s ≡ 0 → (os : List ℕ) → os ≡ rootOffsets s → Pending s c os
-pending-roots s c w h os e =
-    let k = w .geometry .count in
-    record { long = rw e (length-roots s ∙ sym k); each = rw e (each-sort (rw (all-roots s) at (all-allowed s h))) }
+-- offsets that differ in zeros at their end stand for the same changes
+same-changes : (s : List ℕ) (i : ℕ) (os os′ : List ℕ) → ((k : ℕ) → getD os k 0 ≡ getD os′ k 0) → pendingChanges s i os ≡ pendingChanges s i os′
+unfolding pendingChanges
+same-changes s i [] [] h = refl
+same-changes s i [] (o ∷ os′) h = rw (← h 0, changes-none s i) (same-changes s (suc i) [] os′ (λ k. h (suc k)))
+same-changes s i (o ∷ os) [] h = rw (h 0, changes-none s i) (same-changes s (suc i) os [] (λ k. h (suc k)))
+same-changes s i (o ∷ os) (o′ ∷ os′) h = rw (h 0, same-changes s (suc i) os os′ (λ k. h (suc k)))
 
-pub apart-is : (s : List ℕ) → chainsRefusal s ≡ 0 → (os : List ℕ) → os ≡ rootOffsets s → (z : Bool)
-    → z ≡ stacked (endAt s) (endOf s) (sort (pendingChanges s 0 os)) → z ≡ changesApart s
-apart-is s h os e z ez = ez ∙ rw e (sym (apart-stacked s h))
+module _ (s : List ℕ) (m : ℕ) (nodes : List ℕ) (w : Holding (rootOffsets s) m nodes) (os : List ℕ) (e : os ≡ drop m nodes) where
+  root-changes : pendingChanges s 0 os ≡ pendingChanges s 0 (rootOffsets s)
+  root-changes = rw e (same-changes s 0 (drop m nodes) (rootOffsets s) (w .leaves))
+
+  pub pending-roots : (c : Chains) → Ready s c → chainsRefusal s ≡ 0 → Pending s c os
+  pending-roots c r h =
+      let k = r .geometry .count in
+      let long = length-roots s in
+      record {
+        past = λ i q. rw e (w .leaves i ∙ List·getD-eq-default (rootOffsets s) 0 {n = i} (omega arith));
+        each = rw root-changes (each-sort (rw (all-roots s) at (all-allowed s h)));
+      }
+
+  pub apart-is : chainsRefusal s ≡ 0 → (z : Bool) → z ≡ stacked (endAt s) (endOf s) (sort (pendingChanges s 0 os)) → z ≡ changesApart s
+  apart-is h z ez = ez ∙ rw root-changes (sym (apart-stacked s h))

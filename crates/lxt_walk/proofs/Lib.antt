@@ -1,3 +1,4 @@
 pub mod PendingLaws
 pub mod ChainLaws
+pub mod TreeLaws
 pub mod ApartLaws

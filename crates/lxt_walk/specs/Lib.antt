@@ -8,6 +8,7 @@ pub mod Bridge
 pub mod Check17
 pub mod Accepted
 pub mod Reading
+pub mod Tree
 pub mod Wider
 pub mod Roots
 pub mod Full

@@ -3,7 +3,7 @@ use Prim.Native.Nat.{ℕ, _+_, _≤_, _<_}
 use mathlib.Core.Path.{_≡_}
 use mathlib.Core.Bool.{Bool, true, false}
 use mathlib.Core.List.{List}
-use lib.ListN.{length}
+use lib.ListN.{length, getD}
 use Rattle.lxt_format.specs.Sections.{endOf, changesFrom}
 use Rattle.lxt_format.specs.Basics.{if_then_else_}
 use Rattle.lxt_format.specs.Geometry.{isAlias, geometriesAllowed, syncOf}
@@ -44,7 +44,7 @@ facilityFault s f = if isAlias s f then 0 else faultFrom s f (syncOf s f)
 unfoldable pub rootOffset : List ℕ → ℕ → ℕ
 rootOffset s f = if isAlias s f then 0 else syncOf s f
 
--- a pending offset for each facility, from which on every change is allowed
+-- a pending offset for each facility and 0 past them, from which on every change is allowed
 pub record Pending (s : List ℕ) (c : Chains) (os : List ℕ) : Type 0 where
-  pub long : length os ≡ c .facilities
+  pub past : (i : ℕ) → c .facilities ≤ i → getD os i 0 ≡ 0
   pub each : Each (Allowed s) (sort (pendingChanges s 0 os))

@@ -2,15 +2,16 @@
 ghost use mathlib.Core.Path.{_≡_};
 ghost use Prim.Native.Nat.{_≤_, _<_};
 ghost use lib.Dec.{leb};
-ghost use lib.ListN.{length, drop};
+ghost use lib.ListN.{drop};
 ghost use Rattle.lxt_format.specs.Sections.{endOf};
 ghost use Rattle.lxt_format.specs.Judge.{endAt, changesApart, chainsRefusal};
 ghost use Rattle.lxt_format.specs.Walk.{sort};
 ghost use Rattle.lxt_walk.specs.Pending.{pendingChanges, rootOffsets};
 ghost use Rattle.lxt_walk.specs.Check17.{stacked};
 ghost use Rattle.lxt_walk.specs.Reading.{Ready, Stepping, Pending, rootOffset};
+ghost use Rattle.lxt_walk.specs.Tree.{Tree, Blank, Holding};
 use crate::chains::Chains;
-use crate::pending;
+use crate::tree;
 use lxt_changes::delta;
 use lxt_changes::ends;
 use lxt_tables::geometry;
@@ -26,14 +27,15 @@ fn root_ends_by(file: &[u8], c: Chains, f: u32, o: u32, bound: usize) -> bool
 }
 
 // Whether the changes from the pending offsets on end each at or below the start of the one above it,
-// and the first at or below T. The offsets are stepped down to 0, or to where that fails.
-fn all_stacked(file: &[u8], c: Chains, offsets: &mut [u32]) -> bool
-    requires { ⌜ Ready (now file) c × Pending (now file) c (now offsets) ⌝ }
-    ensures { λ r. ⌜ r ≡ stacked (endAt (now (file .entry))) (endOf (now (file .entry))) (sort (pendingChanges (now (file .entry)) 0 (now (offsets .entry)))) ⌝ }
+// and the first at or below T. The offsets stand in the leaves of a tree with `m` leaves and are stepped
+// down to 0, or to where that fails.
+fn all_stacked(file: &[u8], c: Chains, nodes: &mut [u32], m: usize) -> bool
+    requires { ⌜ Ready (now file) c × ((c .facilities ≤ m) × (Tree m (now nodes) × Pending (now file) c (drop m (now nodes)))) ⌝ }
+    ensures { λ r. ⌜ r ≡ stacked (endAt (now (file .entry))) (endOf (now (file .entry))) (sort (pendingChanges (now (file .entry)) 0 (drop m (now (nodes .entry))))) ⌝ }
 {
     let mut bound = c.end;
     'changes: loop {
-        let top = pending::highest(offsets);
+        let top = tree::highest(nodes, m);
         let number = top.number;
         let o = top.offset;
         if o == 0 {
@@ -43,7 +45,8 @@ fn all_stacked(file: &[u8], c: Chains, offsets: &mut [u32]) -> bool
             return false;
         }
         bound = o as usize;
-        offsets[number] = delta::previous(file, bound) as u32;
+        let previous = delta::previous(file, bound) as u32;
+        tree::put(nodes, m, number, previous);
     }
     true
 }
@@ -59,25 +62,26 @@ fn root_offset(file: &[u8], c: Chains, f: u32) -> u32
     geometry::sync_of(file, c.sync, c.facilities, f)
 }
 
-// Those of all facilities.
-fn put_root_offsets(file: &[u8], c: Chains, offsets: &mut [u32])
-    requires { ⌜ Ready (now file) c × (length (now offsets) ≡ c .facilities) ⌝ }
-    ensures { λ _. ⌜ now (offsets .exit) ≡ rootOffsets (now (file .entry)) ⌝ }
+// Those of all facilities, in the leaves of a tree.
+fn put_root_offsets(file: &[u8], c: Chains, nodes: &mut [u32], m: usize)
+    requires { ⌜ Ready (now file) c × ((c .facilities ≤ m) × Blank m (now nodes)) ⌝ }
+    ensures { λ _. ⌜ Holding (rootOffsets (now (file .entry))) m (now (nodes .exit)) ⌝ }
 {
     let mut f = 0;
     while f < c.facilities {
-        offsets[f as usize] = root_offset(file, c, f);
+        nodes[m + f as usize] = root_offset(file, c, f);
         f += 1;
     }
 }
 
-// No two changes share a byte, found with room for an offset for each facility.
-fn apart_within(file: &[u8], c: Chains, offsets: &mut [u32]) -> bool
-    requires { ⌜ Ready (now file) c × ((length (now offsets) ≡ c .facilities) × (chainsRefusal (now file) ≡ 0)) ⌝ }
+// No two changes share a byte, found with room for a tree with a leaf for each facility.
+fn apart_within(file: &[u8], c: Chains, nodes: &mut [u32], m: usize) -> bool
+    requires { ⌜ Ready (now file) c × ((chainsRefusal (now file) ≡ 0) × ((c .facilities ≤ m) × Blank m (now nodes))) ⌝ }
     ensures { λ r. ⌜ r ≡ changesApart (now (file .entry)) ⌝ }
 {
-    put_root_offsets(file, c, offsets);
-    all_stacked(file, c, offsets)
+    put_root_offsets(file, c, nodes, m);
+    tree::build(nodes, m);
+    all_stacked(file, c, nodes, m)
 }
 
 // No two changes share a byte, in a file whose chains have no fault.
@@ -85,7 +89,8 @@ pub fn all_apart(file: &[u8], c: Chains) -> bool
     requires { ⌜ Ready (now file) c × (chainsRefusal (now file) ≡ 0) ⌝ }
     ensures { λ r. ⌜ r ≡ changesApart (now (file .entry)) ⌝ }
 {
-    let mut offsets = [0u32; 4096];
+    let mut nodes = [0u32; 8192];
     let n = c.facilities as usize;
-    apart_within(file, c, &mut offsets[..n])
+    let m = tree::leaves_for(n);
+    apart_within(file, c, &mut nodes[..2 * m], m)
 }

@@ -4,3 +4,4 @@
 pub mod apart;
 pub mod chains;
 pub mod pending;
+pub mod tree;

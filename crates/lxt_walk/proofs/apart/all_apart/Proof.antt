@@ -1,28 +1,32 @@
-use Prim.Native.Nat.{ℕ, _≤_}
-use mathlib.Core.Path.{_≡_, sym, _∙_}
-use lib.ListN.{length, take, replicate, length-replicate}
-use lib.Seq.{length-take-le}
+use mathlib.Core.Path.{sym}
+use native.Mathlib.Omega.{arith}
+use Rattle.lxt_walk.proofs.TreeLaws.{zeros-long, zeros-blank}
 use borrow.Author.Needs.{needs}
 use Rattle.lxt_walk.proofs.apart.all_apart.Statement.{statement}
 use Rattle.lxt_walk.proofs.apart.all_apart.Tie as tie
 
--- the first n of as many offsets as there can be facilities
-cut : (n : ℕ) → n ≤ 4096 → length (take n (replicate {A = ℕ} 4096 0)) ≡ n
-cut n h = length-take-le n (replicate 4096 0) (rw (length-replicate {A = ℕ} 4096 0) h)
-
 cast-n : tie.Need-cast-n
 cast-n c = search needs
 
-array-borrow-prefix-offsets : tie.Need-array-borrow-prefix-offsets
-array-borrow-prefix-offsets c = search needs
+leaves-for-requires : tie.Need-leaves-for-requires
+leaves-for-requires c κs = search needs
+
+mul-nodes : tie.Need-mul-nodes
+mul-nodes c = search needs
+
+array-borrow-prefix-nodes : tie.Need-array-borrow-prefix-nodes
+array-borrow-prefix-nodes c = search needs
 
 slice-aggregate-apart-within : tie.Need-slice-aggregate-apart-within
-slice-aggregate-apart-within c = sym (cut _ (c .before .before .before .pre .0 .most))
+slice-aggregate-apart-within c =
+    let l = c .before .leaves-for .ensures in
+    sym (zeros-long 8192 _ _ l (omega (arith, l .most)))
 
 apart-within-requires : tie.Need-apart-within-requires
 apart-within-requires c κs =
-    let pre = c .before .before .before .pre in
-    (pre .0, (cut _ (pre .0 .most), pre .1))
+    let l = c .before .leaves-for .ensures in
+    let pre = c .before .before .before .before .pre in
+    (pre .0, (pre .1, (l .enough, zeros-blank 8192 _ _ l (omega (arith, l .most)))))
 
 returns : tie.Need-returns
 returns c = search needs
@@ -32,7 +36,9 @@ all-apart-spec =
     tie.close
     (tie.spec
     cast-n
-    array-borrow-prefix-offsets
+    leaves-for-requires
+    mul-nodes
+    array-borrow-prefix-nodes
     slice-aggregate-apart-within
     apart-within-requires
     returns)

@@ -1,15 +1,14 @@
 use borrow.Author.Needs.{needs}
 use Prim.Native.Nat.{_-_}
-use native.Mathlib.Omega.{arith}
 use Rattle.lxt_walk.proofs.ApartLaws.{Filled, fill-begun, fill-next, fill-ended}
 use Rattle.lxt_walk.proofs.apart.put_root_offsets.Statement.{statement}
 use Rattle.lxt_walk.proofs.apart.put_root_offsets.Tie as tie
 
 abbrev Inv-loop : tie.InvT-loop
-Inv-loop file c offsets₀ f₀ offsets f = Filled file (c .facilities) f offsets
+Inv-loop file c nodes₀ m f₀ nodes f = Filled file (c .facilities) m f nodes
 
 abbrev μ-loop : tie.MeasureT-loop
-μ-loop file c offsets₀ f₀ offsets f = c .facilities - f
+μ-loop file c nodes₀ m f₀ nodes f = c .facilities - f
 
 loop-holds : tie.Need-loop-holds Inv-loop μ-loop
 loop-holds c = search fill-begun
@@ -17,14 +16,17 @@ loop-holds c = search fill-begun
 root-offset-requires : tie.Need-root-offset-requires Inv-loop μ-loop
 root-offset-requires c κs = search needs
 
-cast-offsets : tie.Need-cast-offsets Inv-loop μ-loop
-cast-offsets c = search needs
+cast-nodes : tie.Need-cast-nodes Inv-loop μ-loop
+cast-nodes c = search needs
 
-mul-offsets : tie.Need-mul-offsets Inv-loop μ-loop
-mul-offsets c = search needs
+add-nodes : tie.Need-add-nodes Inv-loop μ-loop
+add-nodes c = search needs
 
-slice-write-offsets : tie.Need-slice-write-offsets Inv-loop μ-loop
-slice-write-offsets c = search needs
+mul-nodes : tie.Need-mul-nodes Inv-loop μ-loop
+mul-nodes c = search needs
+
+slice-write-nodes : tie.Need-slice-write-nodes Inv-loop μ-loop
+slice-write-nodes c = search needs
 
 add-f : tie.Need-add-f Inv-loop μ-loop
 add-f c = search needs
@@ -49,9 +51,10 @@ put-root-offsets-spec =
     μ-loop
     loop-holds
     root-offset-requires
-    cast-offsets
-    mul-offsets
-    slice-write-offsets
+    cast-nodes
+    add-nodes
+    mul-nodes
+    slice-write-nodes
     add-f
     loop-less
     loop-again
