@@ -1,1 +1,2 @@
 pub mod JudgeLaws
+pub mod GiveLaws

@@ -3,6 +3,7 @@ use Prim.Native.Nat.{ℕ}
 use mathlib.Core.List.{List, [], _∷_}
 use lib.IntN.{ℤ}
 use Rattle.lxt_format.specs.Basics.{Answer, given, refused}
+use Rattle.lxt_format.specs.Answers.{Shown, bitsOf, realOf, textOf, nothing}
 use Rattle.lxt_format.specs.declared.Summary.{Summary}
 
 unfoldable pub numberOf : {A : Type 0} → Answer A → ℕ
@@ -17,3 +18,19 @@ judgeNumbers (refused k) before = before
 unfoldable pub judgeTimescale : Answer Summary → ℤ → ℤ
 judgeTimescale (given a) before = a .timescale
 judgeTimescale (refused k) before = before
+
+-- an answer that is one number
+unfoldable pub oneNumber : Answer ℕ → ℕ → ℕ
+oneNumber (given a) before = a
+oneNumber (refused k) before = before
+
+-- a value as three numbers: what it is, and its width, its 64 bits, or its start and length
+unfoldable pub shownNumbers : Shown → List ℕ
+shownNumbers (bitsOf width) = 0 ∷ width ∷ 0 ∷ []
+shownNumbers (realOf x b) = 1 ∷ b ∷ 0 ∷ []
+shownNumbers (textOf start size) = 2 ∷ start ∷ size ∷ []
+shownNumbers nothing = 3 ∷ 0 ∷ 0 ∷ []
+
+unfoldable pub valueNumbers : Answer Shown → List ℕ → List ℕ
+valueNumbers (given a) before = shownNumbers a
+valueNumbers (refused k) before = before

@@ -2,8 +2,17 @@
 // memory; where it is refused, nothing lent changes. include/lxt.h documents them for C.
 ghost use mathlib.Core.Path.{_≡_};
 ghost use Rattle.lxt_format.specs.Judge.{judge};
-ghost use Rattle.lxt_c.specs.Numbers.{numberOf, judgeNumbers, judgeTimescale};
+ghost use lib.ListN.{length};
+ghost use Rattle.lxt_format.specs.Answers.{numberSays, valueSays};
+ghost use Rattle.lxt_format.specs.Questions.{rootAsked, nameAsked, nameBuffer, beforeAsked, valueAsked, valueBuffer};
+ghost use Rattle.lxt_c.specs.Numbers.{numberOf, judgeNumbers, judgeTimescale, oneNumber, valueNumbers};
 use lxt_format::Judgement;
+use lxt_format::NumberAnswer;
+use lxt_format::Value;
+use lxt_reader::changes;
+use lxt_reader::facilities;
+use lxt_reader::names;
+use lxt_reader::values;
 
 // n, C, T and the initial symbol's code; the timescale, which is signed, stands by itself.
 #[no_mangle]
@@ -22,4 +31,96 @@ pub extern "C" fn lxt_judge(file: &[u8], answer: &mut [u32; 4], timescale: &mut 
         }
         Judgement::Refused(n) => n as u32,
     }
+}
+
+// An answer that is one number.
+fn give(a: NumberAnswer, number: &mut u32) -> u32
+    ensures { λ r. ⌜ (r ≡ numberOf (numberSays a)) × (now (number .exit) ≡ oneNumber (numberSays a) (now (number .entry))) ⌝ }
+{
+    match a {
+        NumberAnswer::Number(k) => {
+            *number = k;
+            0
+        }
+        NumberAnswer::Refused(n) => n as u32,
+    }
+}
+
+// The root of a facility.
+#[no_mangle]
+pub extern "C" fn lxt_root(file: &[u8], facility: u32, root: &mut u32) -> u32
+    ensures { λ r. ⌜ r ≡ numberOf (rootAsked (now (file .entry)) facility) ⌝ }
+    ensures { λ _. ⌜ now (root .exit) ≡ oneNumber (rootAsked (now (file .entry)) facility) (now (root .entry)) ⌝ }
+{
+    let a = facilities::root_of(file, facility);
+    give(a, root)
+}
+
+// The length of a facility's name, which is written into the lent names buffer.
+#[no_mangle]
+pub extern "C" fn lxt_name(file: &[u8], facility: u32, names: &mut [u8], size: &mut u32) -> u32
+    ensures { λ r. ⌜ r ≡ numberOf (nameAsked (now (file .entry)) facility (length (now (names .entry)))) ⌝ }
+    ensures { λ _. ⌜ now (names .exit) ≡ nameBuffer (now (file .entry)) facility (now (names .entry)) ⌝ }
+    ensures { λ _. ⌜ now (size .exit) ≡ oneNumber (nameAsked (now (file .entry)) facility (length (now (names .entry)))) (now (size .entry)) ⌝ }
+{
+    let a = names::length_of(file, facility, names);
+    give(a, size)
+}
+
+// The change before a given change, 0 where there is none.
+#[no_mangle]
+pub extern "C" fn lxt_change_before(
+    file: &[u8],
+    facility: u32,
+    offset: u32,
+    before: &mut u32,
+) -> u32
+    ensures { λ r. ⌜ r ≡ numberOf (beforeAsked (now (file .entry)) facility offset) ⌝ }
+    ensures { λ _. ⌜ now (before .exit) ≡ oneNumber (beforeAsked (now (file .entry)) facility offset) (now (before .entry)) ⌝ }
+{
+    let a = changes::before(file, facility, offset);
+    give(a, before)
+}
+
+// A value as three numbers: 0 and the width; 1 and a real's 64 bits; 2, a text's start and its
+// length; or 3, not driven.
+fn give_value(v: Value, answer: &mut [u64; 3]) -> u32
+    ensures { λ r. ⌜ (r ≡ numberOf (valueSays v)) × (now (answer .exit) ≡ valueNumbers (valueSays v) (now (answer .entry))) ⌝ }
+{
+    match v {
+        Value::Bits { width } => {
+            *answer = [0, width as u64, 0];
+            0
+        }
+        Value::Real { number: _, bits } => {
+            *answer = [1, bits, 0];
+            0
+        }
+        Value::Text { start, length } => {
+            *answer = [2, start as u64, length as u64];
+            0
+        }
+        Value::NotDriven => {
+            *answer = [3, 0, 0];
+            0
+        }
+        Value::Refused(n) => n as u32,
+    }
+}
+
+// The value at a time; symbols are written into the lent bits buffer.
+#[no_mangle]
+pub extern "C" fn lxt_value_at(
+    file: &[u8],
+    facility: u32,
+    time: u32,
+    bits: &mut [u8],
+    answer: &mut [u64; 3],
+) -> u32
+    ensures { λ r. ⌜ r ≡ numberOf (valueAsked (now (file .entry)) facility time (length (now (bits .entry)))) ⌝ }
+    ensures { λ _. ⌜ now (bits .exit) ≡ valueBuffer (now (file .entry)) facility time (now (bits .entry)) ⌝ }
+    ensures { λ _. ⌜ now (answer .exit) ≡ valueNumbers (valueAsked (now (file .entry)) facility time (length (now (bits .entry)))) (now (answer .entry)) ⌝ }
+{
+    let v = values::at_time(file, facility, time, bits);
+    give_value(v, answer)
 }
