@@ -3,11 +3,28 @@ use Prim.Native.Nat.{ℕ}
 use mathlib.Core.Path.{_≡_, refl, sym, _∙_, ap}
 use mathlib.Core.List.{List, [], _∷_}
 use lib.Ieee.{Float}
-use Rattle.lxt_format.specs.Basics.{Answer}
-use Rattle.lxt_format.specs.Answers.{Shown, valueSays}
+use native.Mathlib.Omega.{arith}
+use native.Mathlib.Decide.{ℕ-discrete}
+use Rattle.lxt_format.specs.Basics.{Answer, given, refused, answer}
+use Rattle.lxt_format.specs.BasicsLaws.{answer-given, answer-refused}
+use Rattle.lxt_format.specs.Answers.{Shown, valueSays, timedSays}
+use Rattle.lxt_format.specs.declared.TimedValue.{TimedValue}
 use Rattle.lxt_format.specs.declared.Value.{Value}
 use Rattle.lxt_format.specs.declared.Value.the-variants.{Bits, Real, Text}
-use Rattle.lxt_c.specs.Numbers.{numberOf, oneNumber, valueNumbers, shownNumbers}
+use Rattle.lxt_c.specs.Numbers.{numberOf, oneNumber, valueNumbers, shownNumbers, timeBy, changeTime}
+
+is-given : {A : Type 0} → Answer A → ℕ
+is-given (given a) = 1
+is-given (refused k) = 0
+
+-- where an answer is given, it is the answer that the question has
+pub given-value : {A : Type 0} (k : ℕ) (x a : A) → given a ≡ answer k x → a ≡ x
+unfolding is-given
+given-value k x a e =
+    elim (ℕ-discrete k 0) [
+      | yes z ↦ (let q : given a ≡ given x = e ∙ answer-given k x z in cc)
+      | no n ↦ (let q : _≡_ {A = ℕ} 1 0 = ap is-given (e ∙ answer-refused k x n) in absurd (omega arith))
+    ]
 
 module _ {A : Type 0} {p q : Answer A} (e : p ≡ q) where
   pub number-is : {r : ℕ} → r ≡ numberOf p → r ≡ numberOf q
@@ -24,6 +41,10 @@ module _ (v : Value) where
   unfolding numberOf
   bits-number w e = rw e
 
+  pub bits-time : (w : ℕ) → v ≡ Bits w → (at before : ℕ) → at ≡ timeBy (valueSays v) at before
+  unfolding timeBy
+  bits-time w e at before = rw e
+
   pub bits-numbers : (w : ℕ) → v ≡ Bits w → (before : List ℕ) → (0 ∷ w ∷ 0 ∷ []) ≡ valueNumbers (valueSays v) before
   unfolding valueNumbers shownNumbers
   bits-numbers w e before = rw e
@@ -31,6 +52,10 @@ module _ (v : Value) where
   pub real-number : (x : Float) (b : ℕ) → v ≡ Real x b → 0 ≡ numberOf (valueSays v)
   unfolding numberOf
   real-number x b e = rw e
+
+  pub real-time : (x : Float) (b : ℕ) → v ≡ Real x b → (at before : ℕ) → at ≡ timeBy (valueSays v) at before
+  unfolding timeBy
+  real-time x b e at before = rw e
 
   pub real-numbers : (x : Float) (b : ℕ) → v ≡ Real x b → (before : List ℕ) → (1 ∷ b ∷ 0 ∷ []) ≡ valueNumbers (valueSays v) before
   unfolding valueNumbers shownNumbers
@@ -40,6 +65,21 @@ module _ (v : Value) where
   unfolding numberOf
   text-number start size e = rw e
 
+  pub text-time : (start size : ℕ) → v ≡ Text start size → (at before : ℕ) → at ≡ timeBy (valueSays v) at before
+  unfolding timeBy
+  text-time start size e at before = rw e
+
   pub text-numbers : (start size : ℕ) → v ≡ Text start size → (before : List ℕ) → (2 ∷ start ∷ size ∷ []) ≡ valueNumbers (valueSays v) before
   unfolding valueNumbers shownNumbers
   text-numbers start size e before = rw e
+
+-- a change's time and value
+module _ {p : ℕ × Answer Shown} (t : TimedValue) (e : timedSays t ≡ p) where
+  pub timed-number : {r : ℕ} → r ≡ numberOf (valueSays (t .value)) → r ≡ numberOf (p .1)
+  timed-number h = h ∙ ap (λ a. numberOf (a .1)) e
+
+  pub timed-numbers : (before : List ℕ) {after : List ℕ} → after ≡ valueNumbers (valueSays (t .value)) before → after ≡ valueNumbers (p .1) before
+  timed-numbers before h = h ∙ ap (λ a. valueNumbers (a .1) before) e
+
+  pub timed-time : (before : ℕ) {after : ℕ} → after ≡ timeBy (valueSays (t .value)) (t .time) before → after ≡ changeTime p before
+  timed-time before h = h ∙ ap (λ a. changeTime a before) e

@@ -5,24 +5,18 @@ use mathlib.Core.Bool.{Bool, true, false}
 use mathlib.Core.List.{List, [], _∷_}
 use lib.ListN.{length, set}
 use lib.IntN.{ℤ}
-use native.Mathlib.Omega.{arith}
-use native.Mathlib.Decide.{ℕ-discrete}
 use mir.Syntax.{w8}
 use mir.Val.{SFits, toZ, ofZ}
 use mir.ValLaws.{toZ-ofZ}
 use Rattle.lxt_format.specs.Basics.{if_then_else_, Answer, given, refused, answer}
-use Rattle.lxt_format.specs.BasicsLaws.{answer-given, answer-refused}
 use Rattle.lxt_format.specs.Judge.{fileRefusal, summaryOf, judge}
 use Rattle.lxt_format.specs.Answers.{judgementSays}
 use Rattle.lxt_format.specs.declared.Summary.{Summary}
 use Rattle.lxt_format.specs.declared.Judgement.{Judgement}
 use Rattle.lxt_format.specs.declared.Judgement.the-variants.{Accepted, Refused}
 use Rattle.lxt_reader.proofs.JudgeWays.{timescale-fits}
+use Rattle.lxt_c.proofs.GiveLaws.{given-value}
 use Rattle.lxt_c.specs.Numbers.{numberOf, judgeNumbers, judgeTimescale}
-
-is-given : {A : Type 0} → Answer A → ℕ
-is-given (given a) = 1
-is-given (refused k) = 0
 
 module _ (s : List ℕ) (j : Judgement) (e : judgementSays j ≡ judge s) where
   pub refused-number : (k : ℕ) → j ≡ Refused k → k ≡ numberOf (judge s)
@@ -41,17 +35,9 @@ module _ (s : List ℕ) (j : Judgement) (e : judgementSays j ≡ judge s) where
     given-is : given a ≡ judge s
     given-is = rw ej at e
 
-    not-refused : fileRefusal s ≡ 0
-    unfolding is-given judge
-    not-refused =
-        elim (ℕ-discrete (fileRefusal s) 0) [
-          | yes z ↦ z
-          | no n ↦ (let q : _≡_ {A = ℕ} 1 0 = ap is-given (given-is ∙ answer-refused (fileRefusal s) (summaryOf s) n) in absurd (omega arith))
-        ]
-
     summary-is : a ≡ summaryOf s
     unfolding judge
-    summary-is = let q : given a ≡ given (summaryOf s) = given-is ∙ answer-given (fileRefusal s) (summaryOf s) not-refused in cc
+    summary-is = given-value (fileRefusal s) (summaryOf s) a given-is
 
     scale-fits : SFits w8 (a .timescale)
     unfolding summaryOf

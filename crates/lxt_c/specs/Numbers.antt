@@ -5,6 +5,9 @@ use lib.IntN.{ℤ}
 use Rattle.lxt_format.specs.Basics.{Answer, given, refused}
 use Rattle.lxt_format.specs.Answers.{Shown, bitsOf, realOf, textOf, nothing}
 use Rattle.lxt_format.specs.declared.Summary.{Summary}
+use Rattle.lxt_format.specs.declared.Facts.{Facts}
+use Rattle.lxt_format.specs.declared.Kind.{Kind}
+use Rattle.lxt_format.specs.declared.Kind.the-variants.{Bits, Integer, Real, Text}
 
 unfoldable pub numberOf : {A : Type 0} → Answer A → ℕ
 numberOf (given a) = 0
@@ -18,6 +21,26 @@ judgeNumbers (refused k) before = before
 unfoldable pub judgeTimescale : Answer Summary → ℤ → ℤ
 judgeTimescale (given a) before = a .timescale
 judgeTimescale (refused k) before = before
+
+-- kinds by number: 0 bits, 1 integer, 2 real, 3 text
+unfoldable pub kindNumber : Kind → ℕ
+kindNumber Bits = 0
+kindNumber Integer = 1
+kindNumber Real = 2
+kindNumber Text = 3
+
+-- the width and the kind of a facility, its msb and its lsb; what was there where the question is refused
+unfoldable pub factsNumbers : Answer Facts → List ℕ → List ℕ
+factsNumbers (given a) before = a .width ∷ kindNumber (a .kind) ∷ []
+factsNumbers (refused k) before = before
+
+unfoldable pub factsMsb : Answer Facts → ℤ → ℤ
+factsMsb (given a) before = a .msb
+factsMsb (refused k) before = before
+
+unfoldable pub factsLsb : Answer Facts → ℤ → ℤ
+factsLsb (given a) before = a .lsb
+factsLsb (refused k) before = before
 
 -- an answer that is one number
 unfoldable pub oneNumber : Answer ℕ → ℕ → ℕ
@@ -34,3 +57,11 @@ shownNumbers nothing = 3 ∷ 0 ∷ 0 ∷ []
 unfoldable pub valueNumbers : Answer Shown → List ℕ → List ℕ
 valueNumbers (given a) before = shownNumbers a
 valueNumbers (refused k) before = before
+
+-- a change's time; what was there where the question is refused
+unfoldable pub timeBy : Answer Shown → ℕ → ℕ → ℕ
+timeBy (given v) time before = time
+timeBy (refused k) time before = before
+
+abbrev pub changeTime : ℕ × Answer Shown → ℕ → ℕ
+changeTime a before = timeBy (a .1) (a .0) before

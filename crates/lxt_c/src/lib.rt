@@ -4,9 +4,11 @@ ghost use mathlib.Core.Path.{_≡_};
 ghost use Rattle.lxt_format.specs.Judge.{judge};
 ghost use lib.ListN.{length};
 ghost use Rattle.lxt_format.specs.Answers.{numberSays, valueSays};
-ghost use Rattle.lxt_format.specs.Questions.{rootAsked, nameAsked, nameBuffer, beforeAsked, valueAsked, valueBuffer};
-ghost use Rattle.lxt_c.specs.Numbers.{numberOf, judgeNumbers, judgeTimescale, oneNumber, valueNumbers};
+ghost use Rattle.lxt_format.specs.Questions.{factsAsked, rootAsked, nameAsked, nameBuffer, beforeAsked, changeAsked, changeBuffer, valueAsked, valueBuffer};
+ghost use Rattle.lxt_c.specs.Numbers.{numberOf, judgeNumbers, judgeTimescale, kindNumber, factsNumbers, factsMsb, factsLsb, oneNumber, valueNumbers, timeBy, changeTime};
+use lxt_format::FactsAnswer;
 use lxt_format::Judgement;
+use lxt_format::Kind;
 use lxt_format::NumberAnswer;
 use lxt_format::Value;
 use lxt_reader::changes;
@@ -30,6 +32,47 @@ pub extern "C" fn lxt_judge(file: &[u8], answer: &mut [u32; 4], timescale: &mut 
             0
         }
         Judgement::Refused(n) => n as u32,
+    }
+}
+
+// The width and the number of the kind (0 bits, 1 integer, 2 real, 3 text) of a facility, its msb and
+// its lsb.
+#[no_mangle]
+pub extern "C" fn lxt_facts(
+    file: &[u8],
+    facility: u32,
+    answer: &mut [u32; 2],
+    msb: &mut i32,
+    lsb: &mut i32,
+) -> u32
+    ensures { λ r. ⌜ r ≡ numberOf (factsAsked (now (file .entry)) facility) ⌝ }
+    ensures { λ _. ⌜ now (answer .exit) ≡ factsNumbers (factsAsked (now (file .entry)) facility) (now (answer .entry)) ⌝ }
+    ensures { λ _. ⌜ now (msb .exit) ≡ factsMsb (factsAsked (now (file .entry)) facility) (now (msb .entry)) ⌝ }
+    ensures { λ _. ⌜ now (lsb .exit) ≡ factsLsb (factsAsked (now (file .entry)) facility) (now (lsb .entry)) ⌝ }
+{
+    let a = facilities::facts_of(file, facility);
+    match a {
+        FactsAnswer::Known(facts) => {
+            let kind = facts.kind;
+            *answer = [facts.width, kind_number(kind)];
+            let high = facts.msb;
+            *msb = high;
+            let low = facts.lsb;
+            *lsb = low;
+            0
+        }
+        FactsAnswer::Refused(n) => n as u32,
+    }
+}
+
+fn kind_number(kind: Kind) -> u32
+    ensures { λ r. ⌜ r ≡ kindNumber kind ⌝ }
+{
+    match kind {
+        Kind::Bits => 0,
+        Kind::Integer => 1,
+        Kind::Real => 2,
+        Kind::Text => 3,
     }
 }
 
@@ -106,6 +149,51 @@ fn give_value(v: Value, answer: &mut [u64; 3]) -> u32
         }
         Value::Refused(n) => n as u32,
     }
+}
+
+// A change's time; what was there where its value is refused.
+fn give_time(v: Value, at: u32, time: &mut u32)
+    ensures { λ _. ⌜ now (time .exit) ≡ timeBy (valueSays v) at (now (time .entry)) ⌝ }
+{
+    match v {
+        Value::Bits { width: _ } => {
+            *time = at;
+        }
+        Value::Real { number: _, bits: _ } => {
+            *time = at;
+        }
+        Value::Text {
+            start: _,
+            length: _,
+        } => {
+            *time = at;
+        }
+        Value::NotDriven => {
+            *time = at;
+        }
+        Value::Refused(_) => {}
+    }
+}
+
+// A change's time and value; symbols are written into the lent bits buffer.
+#[no_mangle]
+pub extern "C" fn lxt_change(
+    file: &[u8],
+    facility: u32,
+    offset: u32,
+    bits: &mut [u8],
+    time: &mut u32,
+    answer: &mut [u64; 3],
+) -> u32
+    ensures { λ r. ⌜ r ≡ numberOf (changeAsked (now (file .entry)) facility offset (length (now (bits .entry))) .1) ⌝ }
+    ensures { λ _. ⌜ now (bits .exit) ≡ changeBuffer (now (file .entry)) facility offset (now (bits .entry)) ⌝ }
+    ensures { λ _. ⌜ now (time .exit) ≡ changeTime (changeAsked (now (file .entry)) facility offset (length (now (bits .entry)))) (now (time .entry)) ⌝ }
+    ensures { λ _. ⌜ now (answer .exit) ≡ valueNumbers (changeAsked (now (file .entry)) facility offset (length (now (bits .entry))) .1) (now (answer .entry)) ⌝ }
+{
+    let t = values::of_change(file, facility, offset, bits);
+    let v = t.value;
+    give_time(v, t.time, time);
+    give_value(v, answer)
 }
 
 // The value at a time; symbols are written into the lent bits buffer.

@@ -1,0 +1,52 @@
+use Rattle.lxt_c.specs.Numbers.{timeBy}
+use Rattle.lxt_c.proofs.GiveLaws.{bits-time, real-time, text-time}
+use borrow.Author.Needs.{needs}
+use Rattle.lxt_c.proofs.give_time.Statement.{statement}
+use Rattle.lxt_c.proofs.give_time.Tie as tie
+
+enum-told : tie.Need-enum-told
+enum-told c = search needs
+
+enum-told-2 : tie.Need-enum-told-2
+enum-told-2 c = search needs
+
+enum-told-3 : tie.Need-enum-told-3
+enum-told-3 c = search needs
+
+enum-told-4 : tie.Need-enum-told-4
+enum-told-4 c = search needs
+
+enum-told-5 : tie.Need-enum-told-5
+enum-told-5 c = search needs
+
+returns : tie.Need-returns
+returns c = search bits-time
+
+returns-2 : tie.Need-returns-2
+returns-2 c = search real-time
+
+returns-3 : tie.Need-returns-3
+returns-3 c = search text-time
+
+returns-4 : tie.Need-returns-4
+unfolding timeBy
+returns-4 c = search needs
+
+returns-5 : tie.Need-returns-5
+unfolding timeBy
+returns-5 c = search needs
+
+pub give-time-spec : {M : Type 1} → statement M
+give-time-spec =
+    tie.close
+    (tie.spec
+    enum-told
+    enum-told-2
+    enum-told-3
+    enum-told-4
+    enum-told-5
+    returns
+    returns-2
+    returns-3
+    returns-4
+    returns-5)
