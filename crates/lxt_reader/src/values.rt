@@ -108,20 +108,26 @@ pub fn of_change(file: &[u8], facility: u32, offset: u32, bits: &mut [u8]) -> Ti
 pub fn at_time(file: &[u8], facility: u32, time: u32, bits: &mut [u8]) -> Value
     ensures { λ r. ⌜ (valueSays r ≡ valueAsked (now (file .entry)) facility time (length (now (bits .entry)))) × (now (bits .exit) ≡ valueBuffer (now (file .entry)) facility time (now (bits .entry))) ⌝ }
 {
-    let c = changes::find_chain(file, facility);
-    if c.refusal != 0 {
-        return Value::Refused(c.refusal);
+    let chain = changes::find_chain(file, facility);
+    if chain.refusal != 0 {
+        return Value::Refused(chain.refusal);
     }
-    let facts = c.facts;
-    let kind = facts.kind;
-    if bits.len() < facts.width as usize {
+    let shape = chain.facts;
+    let kind = shape.kind;
+    if bits.len() < shape.width as usize {
         return Value::Refused(21);
     }
-    let t = c.tables;
-    let o = times::latest(file, t.times as usize, t.time_count, c.start as usize, time);
+    let t = chain.tables;
+    let o = times::latest(
+        file,
+        t.times as usize,
+        t.time_count,
+        chain.start as usize,
+        time,
+    );
     if o == 0 {
-        return initial(kind, facts.width, t.initial, bits);
+        return initial(kind, shape.width, t.initial, bits);
     }
     let order = t.order;
-    read(file, t.end, order, kind, facts.width, o, bits)
+    read(file, t.end, order, kind, shape.width, o, bits)
 }

@@ -23,6 +23,59 @@ pub struct Summary {
     pub initial: u8,
 }
 
+/// The kind of a facility.
+#[derive(Clone, Copy, Debug, PartialEq, Eq)]
+pub enum Kind {
+    Bits,
+    Integer,
+    Real,
+    Text,
+}
+
+/// The facts of a facility.
+#[derive(Clone, Copy, Debug, PartialEq, Eq)]
+pub struct Facts {
+    /// The number of symbols of a value; 0 for reals and texts.
+    pub width: u32,
+    pub msb: i32,
+    pub lsb: i32,
+    pub kind: Kind,
+}
+
+/// The value of a facility.
+#[derive(Clone, Copy, Debug, PartialEq)]
+pub enum Value {
+    /// The symbols `0 1 Z X H U W L -`, which stand in the first `width` bytes of the lent bits.
+    Bits { width: u32 },
+    /// A real, and its 64 bits, which also tell apart what `==` of `f64` does not.
+    Real { number: f64, bits: u64 },
+    /// A text, which stands in the file from `start` on, without its zero.
+    Text { start: u32, length: u32 },
+    /// A real or a text that has no change up to the time.
+    NotDriven,
+}
+
+impl Value {
+    /// The value of three numbers: 0 and the width; 1 and a real's bits; 2, a text's start and its
+    /// length; 3, not driven.
+    fn of_numbers(numbers: [u64; 3]) -> Value {
+        match numbers[0] {
+            0 => Value::Bits {
+                width: numbers[1] as u32,
+            },
+            1 => Value::Real {
+                number: f64::from_bits(numbers[1]),
+                bits: numbers[1],
+            },
+            2 => Value::Text {
+                start: numbers[1] as u32,
+                length: numbers[2] as u32,
+            },
+            _ => Value::NotDriven,
+        }
+    }
+}
+
 /// A refused call: the number of the first rule that the file or the question breaks.
 #[derive(Clone, Copy, Debug, PartialEq, Eq)]
 pub struct Refusal(u8);
@@ -55,4 +108,90 @@ pub fn judge(file: &[u8]) -> Result<Summary, Refusal> {
         }),
         number => Err(Refusal(number as u8)),
     }
+}
+
+/// The room that asking for a name needs, in bytes.
+pub const NAME_ROOM: usize = 1_023;
+
+/// Nothing for 0, or the refusal of that number.
+fn accepted(number: u32) -> Result<(), Refusal> {
+    match number {
+        0 => Ok(()),
+        number => Err(Refusal(number as u8)),
+    }
+}
+
+/// The facts of a facility; an alias answers its root's.
+///
+/// This and every other question judges the file first, so that it may be asked of any bytes.
+pub fn facts(file: &[u8], facility: u32) -> Result<Facts, Refusal> {
+    let mut answer = [0; 2];
+    let (mut msb, mut lsb) = (0, 0);
+    accepted(ffi::facts(file, facility, &mut answer, &mut msb, &mut lsb))?;
+    let kind = match answer[1] {
+        0 => Kind::Bits,
+        1 => Kind::Integer,
+        2 => Kind::Real,
+        _ => Kind::Text,
+    };
+    Ok(Facts {
+        width: answer[0],
+        msb,
+        lsb,
+        kind,
+    })
+}
+
+/// The root of a facility, which holds its changes; a root's root is itself.
+pub fn root(file: &[u8], facility: u32) -> Result<u32, Refusal> {
+    let mut root = 0;
+    accepted(ffi::root(file, facility, &mut root))?;
+    Ok(root)
+}
+
+/// The name of a facility, written at the start of the lent names.
+///
+/// Needs [`NAME_ROOM`] bytes. The rest of those becomes zero, and bytes after them stay.
+pub fn name<'a>(file: &[u8], facility: u32, names: &'a mut [u8]) -> Result<&'a [u8], Refusal> {
+    let mut size = 0;
+    accepted(ffi::name(file, facility, names, &mut size))?;
+    Ok(&names[..size as usize])
+}
+
+/// The offset of the change before the change at `offset`; 0 if that is the first one.
+pub fn change_before(file: &[u8], facility: u32, offset: u32) -> Result<u32, Refusal> {
+    let mut before = 0;
+    accepted(ffi::change_before(file, facility, offset, &mut before))?;
+    Ok(before)
+}
+
+/// The time and the value of the change at `offset`.
+///
+/// Bits and integers need as many lent bytes as they are wide; other bytes stay.
+pub fn change(
+    file: &[u8],
+    facility: u32,
+    offset: u32,
+    bits: &mut [u8],
+) -> Result<(u32, Value), Refusal> {
+    let mut time = 0;
+    let mut answer = [0; 3];
+    accepted(ffi::change(
+        file,
+        facility,
+        offset,
+        bits,
+        &mut time,
+        &mut answer,
+    ))?;
+    Ok((time, Value::of_numbers(answer)))
+}
+
+/// The value of a facility at a time.
+///
+/// Bits and integers need as many lent bytes as they are wide; other bytes stay.
+pub fn value_at(file: &[u8], facility: u32, time: u32, bits: &mut [u8]) -> Result<Value, Refusal> {
+    let mut answer = [0; 3];
+    accepted(ffi::value_at(file, facility, time, bits, &mut answer))?;
+    Ok(Value::of_numbers(answer))
 }
