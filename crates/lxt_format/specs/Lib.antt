@@ -19,6 +19,7 @@ pub mod Judge
 pub mod JudgeLaws
 pub mod Walk
 pub mod Answers
+pub mod Columns
 pub mod Questions
 pub mod Everything
 pub mod Traces

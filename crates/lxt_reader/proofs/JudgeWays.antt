@@ -22,8 +22,8 @@ use Rattle.lxt_tables.specs.Stage.{tablesOf}
 use Rattle.lxt_tables.specs.declared.Tables.{Tables}
 use Rattle.lxt_tables.proofs.TablesLaws.{Known, known, refusal-is}
 use Rattle.lxt_changes.specs.Faults.{LastZero}
-use Rattle.lxt_walk.specs.Reading.{Ready}
-use Rattle.lxt_walk.specs.declared.chains.Chains.{Chains}
+use Rattle.lxt_chains.specs.Reading.{Ready}
+use Rattle.lxt_chains.specs.declared.chains.Chains.{Chains}
 
 -- a timescale from -21 to 2 fits 8 bits
 allowed-fits : (z : ℤ) → timescaleAllowed z ≡ true → SFits w8 z
@@ -39,51 +39,6 @@ timescale-fits s =
     (λ h. rw h record { sfits = lit< tt })
 
 module _ (s : List ℕ) (t : Tables) (e : t ≡ tablesOf s) where
-  -- what the chains are read with
-  pub end-within : t .refusal ≡ 0 → t .end ≤ length s
-  end-within h = let k = known s t e h .end-high in omega arith
-
-  pub ready : t .refusal ≡ 0 → (z : ℕ) → LastZero s (t .end) z
-      → Ready s (record { facilities = t .facilities; from = t .changes; end = t .end; zero = z; geometry = t .geometry; sync = t .sync })
-  ready h z l =
-      let k = known s t e h in
-      record {
-        from = k .changes;
-        end = k .end;
-        within = end-within h;
-        short = k .long;
-        zero = l;
-        geometry = k .geometry-at;
-        sync = k .sync-at;
-        allowed = k .passed .geometries;
-        most = k .few;
-      }
-
-  -- the tables are refused
-  pub tables-refused : (t .refusal ≡ 0 → ⊥) → t .refusal ≡ fileRefusal s
-  unfolding fileRefusal
-  tables-refused n = refusal-is s t e ∙ sym (stops (tablesRefusal s) _ (λ z. n (refusal-is s t e ∙ z)))
-
-  module _ (h : t .refusal ≡ 0) where
-    tables-pass : fileRefusal s ≡ (chainsRefusal s orElse 17 unless changesApart s)
-    unfolding fileRefusal
-    tables-pass = let z : tablesRefusal s ≡ 0 = sym (refusal-is s t e) ∙ h in rw z
-
-    module _ (b : ℕ) (eb : b ≡ chainsRefusal s) where
-      pub chain-refused : (b ≡ 0 → ⊥) → b ≡ fileRefusal s
-      chain-refused n = eb ∙ sym (tables-pass ∙ stops (chainsRefusal s) _ (λ z. n (eb ∙ z)))
-
-      module _ (hb : b ≡ 0) where
-        pub chains-pass : chainsRefusal s ≡ 0
-        chains-pass = sym eb ∙ hb
-
-        module _ (z : Bool) (ez : z ≡ changesApart s) where
-          pub overlap : z ≡ false → 17 ≡ fileRefusal s
-          overlap q = sym (tables-pass ∙ rw (chains-pass, ← ez, q))
-
-          pub all-pass : z ≡ true → 0 ≡ fileRefusal s
-          all-pass q = sym (tables-pass ∙ rw (chains-pass, ← ez, q))
-
   module _ (r : ℕ) (er : r ≡ fileRefusal s) where
     pub judged-refused : (r ≡ 0 → ⊥) → refused r ≡ judge s
     unfolding judge

@@ -3,7 +3,7 @@ ghost use mathlib.Core.Path.{_≡_};
 ghost use Rattle.lxt_format.specs.Answers.{factsSay, numberSays};
 ghost use Rattle.lxt_format.specs.Questions.{factsAsked, rootAsked};
 ghost use Rattle.lxt_reader.specs.Asking.{Answers};
-use crate::judged;
+use lxt_chains::whole::judged;
 use lxt_format::FactsAnswer;
 use lxt_format::NumberAnswer;
 use lxt_tables::Tables;

@@ -1,4 +1,0 @@
-pub mod PendingLaws
-pub mod ChainLaws
-pub mod TreeLaws
-pub mod ApartLaws

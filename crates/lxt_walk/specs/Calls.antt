@@ -7,30 +7,42 @@ use mathlib.Core.List.{List, [], _∷_, _++_}
 use lib.ListN.{length, getD, take, drop}
 use Rattle.lxt_format.specs.Basics.{Answer, given, refused}
 use Rattle.lxt_format.specs.Walk.{asks, fullList, flat}
-use Rattle.lxt_format.specs.Questions.{startRefusal, startRecord, carryAsked, carryRecord, carryOutput}
+use Rattle.lxt_format.specs.Answers.{startSays, carrySays}
+use Rattle.lxt_format.specs.Questions.{startAsked, startRecord, carryAsked, carryRecord, carryOutput}
 use Rattle.lxt_format.specs.declared.Pair.{Pair}
-use Rattle.lxt_walk.specs.Pending.{pairOf, firstOf}
+use Rattle.lxt_format.specs.declared.StartAnswer.{StartAnswer}
+use Rattle.lxt_format.specs.declared.CarryAnswer.{CarryAnswer}
+use Rattle.lxt_chains.specs.Pending.{pairOf, firstOf}
 
 -- ---- the calls
 
+-- What `lxt_record::start` promises: its answer, and the record after it
+abbrev pub Starts : (s asked : List ℕ) (before : List Pair) (answer : StartAnswer) (after : List Pair) → Type 0
+Starts s asked before answer after = (startSays answer ≡ startAsked s asked (length before)) × (after ≡ startRecord s asked before)
+
+-- What `lxt_record::carry_on` promises: its answer, and the output buffer and the record after it
+abbrev pub Carries : (s : List ℕ) (pairs : List Pair) (size : ℕ) (buffer : List ℕ) (answer : CarryAnswer) (output : List ℕ) (left : List Pair) → Type 0
+Carries s pairs size buffer answer output left =
+    (carrySays answer ≡ carryAsked s pairs size (length buffer))
+    × ((output ≡ carryOutput s pairs size buffer) × (left ≡ carryRecord s pairs size (length buffer)))
+
 -- "The calls are one start that is not refused": it was lent the record `before`, and left the record `started`
 pub record Started (s asked : List ℕ) (before started : List Pair) : Type 0 where
-  pub not-refused : startRefusal s asked (length before) ≡ 0
-  pub leaves : started ≡ startRecord s asked before
+  pub answer : StartAnswer
+  pub promised : Starts s asked before answer started
+  pub not-refused : startSays answer ≡ given tt
 
 -- a carry-on call: its size, its output buffer before, its answer, and the output buffer and the record as it left them
 pub record Made : Type 0 where
   pub size : ℕ
   pub buffer : List ℕ
-  pub result : Answer (ℕ × Bool)
+  pub answer : CarryAnswer
   pub output : List ℕ
   pub left : List Pair
 
--- a call on the record `pairs` that keeps the promise of carrying on
-pub record Carried (s : List ℕ) (pairs : List Pair) (m : Made) : Type 0 where
-  pub answers : m .result ≡ carryAsked s pairs (m .size) (length (m .buffer))
-  pub writes : m .output ≡ carryOutput s pairs (m .size) (m .buffer)
-  pub leaves : m .left ≡ carryRecord s pairs (m .size) (length (m .buffer))
+-- a call on the record `pairs` that keeps its promise
+abbrev pub Carried : List ℕ → List Pair → Made → Type 0
+Carried s pairs m = Carries s pairs (m .size) (m .buffer) (m .answer) (m .output) (m .left)
 
 -- "then any list of carry-on calls, an empty one too. Each carry-on call gets the start's file, the whole record as the call before left it,
 -- and an output buffer of any length." The calls lead from one record to another
@@ -43,7 +55,7 @@ pub data Kept (s : List ℕ) : List Pair → List Made → List Pair → Type 0 
 -- "Such a call of size s is refused exactly where that buffer is shorter than 2s numbers, with 21." It changes nothing lent.
 pub record Refused (pairs : List Pair) (m : Made) : Type 0 where
   pub short : length (m .buffer) < 2 * m .size
-  pub number : m .result ≡ refused 21
+  pub number : carrySays (m .answer) ≡ refused 21
   pub same-output : m .output ≡ m .buffer
   pub same-record : m .left ≡ pairs
 
@@ -53,7 +65,7 @@ pub record Refused (pairs : List Pair) (m : Made) : Type 0 where
 pub record Handed (full : List Pair) (e : ℕ) (m : Made) (count : ℕ) : Type 0 where
   pub room : 2 * m .size ≤ length (m .buffer)
   pub done : Bool
-  pub answers : m .result ≡ given (count, done)
+  pub answers : carrySays (m .answer) ≡ given (count, done)
   pub counts : count ≡ min (m .size) (length full - e)
   pub hands-out : m .output ≡ flat (take count (drop e full)) ++ drop (2 * count) (m .buffer)
   pub ends : (done ≡ true) ↔ (e + count ≡ length full)
@@ -76,7 +88,7 @@ handedBy (refused k) output = []
 -- the output of all calls, joined
 unfoldable pub outputOf : List Made → List ℕ
 outputOf [] = []
-outputOf (m ∷ calls) = handedBy (m .result) (m .output) ++ outputOf calls
+outputOf (m ∷ calls) = handedBy (carrySays (m .answer)) (m .output) ++ outputOf calls
 
 -- pair i of a record
 abbrev pub pairAt : List Pair → ℕ → Pair

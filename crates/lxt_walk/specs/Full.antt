@@ -15,11 +15,11 @@ use Rattle.lxt_format.specs.JudgeLaws.{accepted}
 use Rattle.lxt_format.specs.Judge.{chainsRefusal, allChanges, endAt, fileRefusal}
 use Rattle.lxt_format.specs.Walk.{asks, sort, fullList}
 use Rattle.lxt_format.specs.declared.Pair.{Pair}
-use Rattle.lxt_walk.specs.Lists.{Each, each-map, each-range, each-select, each-selected}
-use Rattle.lxt_walk.specs.Sorted.{Below, below-weaken, each-sort}
-use Rattle.lxt_walk.specs.Bridge.{all-roots}
-use Rattle.lxt_walk.specs.Check17.{Fits, stacked}
-use Rattle.lxt_walk.specs.Accepted.{Allowed, all-allowed, allowed-fits, apart-stacked}
+use Rattle.lxt_chains.specs.Lists.{Each, each-map, each-range, each-select, each-selected}
+use Rattle.lxt_chains.specs.Sorted.{Below, below-weaken, each-sort}
+use Rattle.lxt_chains.specs.Bridge.{all-roots}
+use Rattle.lxt_chains.specs.Check17.{Fits, stacked}
+use Rattle.lxt_chains.specs.Accepted.{Allowed, all-allowed, allowed-fits, apart-stacked}
 use Rattle.lxt_walk.specs.Roots.{asked-root}
 use Rattle.lxt_walk.specs.Wider.{pairsOf, below-pairs, pairs-chosen}
 

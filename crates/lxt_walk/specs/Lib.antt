@@ -1,14 +1,6 @@
-pub mod Pending
 pub mod Calls
-pub mod Lists
-pub mod Sorted
-pub mod Step
+pub mod Carrying
 pub mod Handed
-pub mod Bridge
-pub mod Check17
-pub mod Accepted
-pub mod Reading
-pub mod Tree
 pub mod Wider
 pub mod Roots
 pub mod Full

@@ -11,7 +11,7 @@ use Rattle.lxt_format.specs.BasicsLaws.{on-test, and-both, all-range}
 use Rattle.lxt_format.specs.Sections.{facilityCount}
 use Rattle.lxt_format.specs.Geometry.{isAlias, rowsOf, rootWithin, rootOf, aliasesAllowed}
 use Rattle.lxt_format.specs.Walk.{asks}
-use Rattle.lxt_walk.specs.Lists.{any-range}
+use Rattle.lxt_chains.specs.Lists.{any-range}
 
 module _ (s : List ℕ) where
   -- where the aliases from g on end at a facility, it is no alias

@@ -13,12 +13,13 @@ use Rattle.lxt_format.specs.BasicsLaws.{on-test, neither, kept}
 use Rattle.lxt_format.specs.Sections.{facilityCount}
 use Rattle.lxt_format.specs.Judge.{fileRefusal}
 use Rattle.lxt_format.specs.Walk.{asks, sort, fullList, startOffsets, withOffsets, offsetsOf, offsetsAfter, flat}
+use Rattle.lxt_format.specs.Answers.{carrySays}
 use Rattle.lxt_format.specs.Questions.{startRefusal, startRecord, carryRefusal, carryPairs, carryOffsets, carryAsked, carryRecord, carryOutput}
 use Rattle.lxt_format.specs.declared.Pair.{Pair}
-use Rattle.lxt_walk.specs.Pending.{pairOf, pendingChanges, firstOf}
-use Rattle.lxt_walk.specs.Lists.{each-map, each-drop}
+use Rattle.lxt_chains.specs.Pending.{pairOf, pendingChanges, firstOf}
+use Rattle.lxt_chains.specs.Lists.{each-map, each-drop}
 use Rattle.lxt_walk.specs.Handed.{length-after, pending-first, call-hands, call-leaves, call-done}
-use Rattle.lxt_walk.specs.Bridge.{full-start, length-start}
+use Rattle.lxt_chains.specs.Bridge.{full-start, length-start}
 use Rattle.lxt_format.specs.JudgeLaws.{passed, accepted}
 use Rattle.lxt_walk.specs.Roots.{asked-below}
 use Rattle.lxt_walk.specs.Full.{full-asked, full-allowed, full-falling, falling-at}
@@ -87,9 +88,9 @@ module _ (s asked : List ℕ) (before : List Pair) (ok : startRefusal s asked (l
         let no : carryRefusal s r (m .size) (length (m .buffer)) ≡ 21 = at-check a (m .size) (length (m .buffer)) ∙ rw b in
         record {
           short = leb-false _ _ b;
-          number = c .answers ∙ rw no;
-          same-output = c .writes ∙ rw no;
-          same-record = c .leaves ∙ rw no;
+          number = c .0 ∙ rw no;
+          same-output = c .1 .0 ∙ rw no;
+          same-record = c .1 .1 ∙ rw no;
         }
 
     module _ (b : leb (2 * m .size) (length (m .buffer)) ≡ true) where
@@ -121,10 +122,10 @@ module _ (s asked : List ℕ) (before : List Pair) (ok : startRefusal s asked (l
         room = leb-true _ _ b;
         done = eqb (e + count) (length full);
         answers =
-            c .answers
+            c .0
             ∙ rw (allowed, pairs-are, length-pairs, offsets-are, call-done s full e (a .offsets) (a .left) (a .within) (m .size));
         counts = refl;
-        hands-out = c .writes ∙ rw (allowed, pairs-are, length-numbers);
+        hands-out = c .1 .0 ∙ rw (allowed, pairs-are, length-numbers);
         ends = (λ d. eqb-true _ _ d, λ d. eq-eqb _ _ d);
       }
 
@@ -134,7 +135,7 @@ module _ (s asked : List ℕ) (before : List Pair) (ok : startRefusal s asked (l
       onwards = record {
         offsets = offsetsAfter s (m .size) (a .offsets);
         is =
-            c .leaves
+            c .1 .1
             ∙ rw (allowed, offsets-are, a .is)
             (with-again before (a .offsets) (offsetsAfter s (m .size) (a .offsets)) (length-after s (m .size) (a .offsets)));
         count = length-after s (m .size) (a .offsets) ∙ a .count;
@@ -143,7 +144,7 @@ module _ (s asked : List ℕ) (before : List Pair) (ok : startRefusal s asked (l
       }
 
       -- its output goes on where that of the calls before it ended
-      joins : flat (take e full) ++ handedBy (m .result) (m .output) ≡ flat (take (e + count) full)
+      joins : flat (take e full) ++ handedBy (carrySays (m .answer)) (m .output) ≡ flat (take (e + count) full)
       unfolding handedBy
       joins = rw (hands .answers, hands .hands-out, take-at _ _ _ length-numbers, take-add, flat-append)
 

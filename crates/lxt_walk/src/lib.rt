@@ -1,7 +1,6 @@
-// The walk over changes by falling offset. The theorems about it stand in specs/: demand 3 (Demand,
-// in the words of Calls), wider walks (Wider), check 17 by neighbours (Check17, Accepted), and the
-// laws of the walk's steps that they rest on (Step, Handed, Bridge).
-pub mod apart;
-pub mod chains;
-pub mod pending;
-pub mod tree;
+// Starting a walk and carrying on, over a walk record in two slices of 32-bit numbers: one holds the
+// numbers of the pairs, the other their pending offsets. lxt_record has the public calls, over a slice of
+// pairs. The theorems about them stand in specs/: demand 3 (Demand, in the words of Calls), wider walks
+// (Wider), and the full list (Full).
+pub mod carry;
+pub mod start;

@@ -1,0 +1,5 @@
+pub mod PendingLaws
+pub mod ChainLaws
+pub mod TreeLaws
+pub mod ApartLaws
+pub mod WholeWays

@@ -1,0 +1,50 @@
+-- What the functions of this crate ask of a file and of what it is read with.
+use Prim.Native.Nat.{ℕ, _+_, _≤_, _<_}
+use mathlib.Core.Path.{_≡_}
+use mathlib.Core.Bool.{Bool, true, false}
+use mathlib.Core.List.{List}
+use lib.ListN.{length, getD}
+use Rattle.lxt_format.specs.Sections.{endOf, changesFrom}
+use Rattle.lxt_format.specs.Basics.{if_then_else_}
+use Rattle.lxt_format.specs.Geometry.{isAlias, geometriesAllowed, syncOf}
+use Rattle.lxt_format.specs.Judge.{faultFrom}
+use Rattle.lxt_format.specs.Walk.{sort}
+use Rattle.lxt_tables.specs.Stage.{Geometry}
+use Rattle.lxt_tables.specs.Asked.{Sync}
+use Rattle.lxt_changes.specs.Faults.{LastZero}
+use Rattle.lxt_chains.specs.Pending.{pendingChanges}
+use Rattle.lxt_chains.specs.Lists.{Each}
+use Rattle.lxt_chains.specs.Accepted.{Allowed}
+use Rattle.lxt_chains.specs.declared.chains.Chains.{Chains}
+
+-- the places of a file that refusals 1 to 14 pass
+pub record Ready (s : List ℕ) (c : Chains) : Type 0 where
+  pub from : c .from ≡ changesFrom s
+  pub end : c .end ≡ endOf s
+  pub within : c .end ≤ length s
+  pub short : length s ≤ 16777216
+  pub zero : LastZero s (c .end) (c .zero)
+  pub geometry : Geometry s (c .geometry) (c .facilities)
+  pub sync : Sync s (c .sync) (c .facilities)
+  pub allowed : geometriesAllowed s ≡ true
+  pub most : c .facilities ≤ 4096
+
+-- a change of a root that lies in the file, and a bound in the file
+pub record Stepping (s : List ℕ) (c : Chains) (f o bound : ℕ) : Type 0 where
+  pub number : f < c .facilities
+  pub root : isAlias s f ≡ false
+  pub offset : o < c .end
+  pub bounded : bound ≤ c .end
+
+-- the first fault of a facility's own chain; an alias has none
+unfoldable pub facilityFault : List ℕ → ℕ → ℕ
+facilityFault s f = if isAlias s f then 0 else faultFrom s f (syncOf s f)
+
+-- the pending offset from which all changes of a facility follow
+unfoldable pub rootOffset : List ℕ → ℕ → ℕ
+rootOffset s f = if isAlias s f then 0 else syncOf s f
+
+-- a pending offset for each facility and 0 past them, from which on every change is allowed
+pub record Pending (s : List ℕ) (c : Chains) (os : List ℕ) : Type 0 where
+  pub past : (i : ℕ) → c .facilities ≤ i → getD os i 0 ≡ 0
+  pub each : Each (Allowed s) (sort (pendingChanges s 0 os))
