@@ -26,6 +26,27 @@ use Rattle.lxt_chains.specs.Reading.{Ready, Stepping, Pending, rootOffse
 use Rattle.lxt_chains.specs.Tree.{Room, Blank, Holding}
 use Rattle.lxt_chains.specs.declared.chains.Chains.{Chains}
 
+-- an allowed change lies in the file, and the one before it has a small offset
+module _ (s : List ℕ) (c : Chains) (w : Ready s c) (f o : ℕ) (allowed : Allowed s (pairOf f o)) where
+  sound-here : Sound s (changesFrom s) (endOf s) (ownFacts s f .kind) (ownFacts s f .width) o
+  sound-here = allowed-sound s allowed
+
+  pub allowed-inside : (o < length s) × (dataAt s o ≤ length s)
+  allowed-inside =
+      let a = sound-here .before in
+      let b = sound-here .ends in
+      let e = w .end in
+      let l = w .within in
+      let d : dataAt s o ≤ changeEnd s (endOf s) (ownFacts s f .kind) (ownFacts s f .width) o = (unfold changeEnd in omega arith) in
+      (omega arith, omega arith)
+
+  pub allowed-previous : (p : ℕ) → p ≡ previousOf s o → p < 16777216
+  allowed-previous p ep =
+      let a = previous-lt s o (allowed .change) in
+      let b = allowed-inside .0 in
+      let d = w .short in
+      omega arith
+
 -- what is left to test below a bound gives what the whole gives
 pub record Sweeping (s : List ℕ) (c : Chains) (os₀ : List ℕ) (bound : ℕ) (os : List ℕ) : Type 0 where
   pub same : stacked (endAt s) bound (sort (pendingChanges s 0 os)) ≡ stacked (endAt s) (endOf s) (sort (pendingChanges s 0 os₀))
@@ -52,29 +73,16 @@ module _ (s : List ℕ) (c : Chains) (os₀ : List ℕ) (bound : ℕ) (os : List
     allowed : Allowed s (pairOf f o)
     allowed = rw (ef, eo) (each-step s os positive (v .pending .each) .0)
 
-    sound-here : Sound s (changesFrom s) (endOf s) (ownFacts s f .kind) (ownFacts s f .width) o
-    sound-here = allowed-sound s allowed
-
     pub stepping : Stepping s c f o bound
     stepping =
-        let a = sound-here .before in
+        let a = allowed-sound s allowed .before in
         record { number = number-below; root = allowed .root; offset = rw (w .end) a; bounded = v .bounded }
 
     pub change-inside : (o < length s) × (dataAt s o ≤ length s)
-    change-inside =
-        let a = sound-here .before in
-        let b = sound-here .ends in
-        let e = w .end in
-        let l = w .within in
-        let d : dataAt s o ≤ changeEnd s (endOf s) (ownFacts s f .kind) (ownFacts s f .width) o = (unfold changeEnd in omega arith) in
-        (omega arith, omega arith)
+    change-inside = allowed-inside s c w f o allowed
 
     pub previous-small : (p : ℕ) → p ≡ previousOf s o → p < 16777216
-    previous-small p ep =
-        let a = previous-lt s o (omega arith) in
-        let b = change-inside .0 in
-        let d = w .short in
-        omega arith
+    previous-small p ep = allowed-previous s c w f o allowed p ep
 
     module _ (z : Bool) (ez : z ≡ leb (endAt s (pairOf f o)) bound) where
       here : stacked (endAt s) bound (sort (pendingChanges s 0 os)) ≡ (z && stacked (endAt s) o (sort (pendingChanges s 0 (step s os))))
