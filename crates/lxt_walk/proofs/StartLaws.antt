@@ -9,9 +9,9 @@ use mathlib.Core.List.{List, [], _∷_, _++_}
 use lib.ListN.{length, getD, set, take, drop, replicate, length-set, length-replicate, getD-replicate, replicate-append-replicate, take-append-drop, List·getD-append}
 use lib.Seq.{getD-set-same, getD-set-other, drop-set-lt, getD-take, length-take-le, ext-getD}
 use lib.Dec.{leb, ltb, eqb}
-use borrow.Author.Tests.{eq-eqb, ne-eqb, le-leb, lt-leb, ltb-true, ltb-false}
+use borrow.Author.Tests.{eq-eqb, ne-eqb, le-leb, lt-leb, ltb-true, ltb-false, eqb-false}
 use Rattle.lxt_format.specs.Basics.{if_then_else_, _unless_, _orElse_, Answer, given, refused, answer, lentAfter, range, any}
-use Rattle.lxt_format.specs.BasicsLaws.{on-test, stops, answer-given, answer-refused, length-range, range-upto, range-done}
+use Rattle.lxt_format.specs.BasicsLaws.{or-either, or-none, stops, answer-given, answer-refused, length-range, range-upto, range-done}
 use Rattle.lxt_format.specs.Sections.{facilityCount}
 use Rattle.lxt_format.specs.Geometry.{rootOf, syncOf}
 use Rattle.lxt_format.specs.GeometryLaws.{root-below}
@@ -199,3 +199,90 @@ module _ (s : List ℕ) (t : Tables) (asked os₀ : List ℕ) (w : Starting s t 
       getD-take n os i 0 b ∙ v .here i b ∙ rw (e, c, wanted-all s asked i) (sym (getD-start s asked i (omega arith)))) in
       let long : length (startOffsets s asked) ≡ n = l ∙ sym c in
       sym (take-append-drop n os) ∙ rw (first, long, v .past)
+
+-- ---- the ways out of `start`
+
+-- an answer, and what both slices hold after it
+abbrev Outcome : List ℕ → List ℕ → List ℕ → List ℕ → Answer (Unit {0}) → List ℕ → List ℕ → Type 0
+Outcome s asked ns os a ns′ os′ =
+    (a ≡ startAsked s asked (length (paired ns os)))
+    × ((ns′ ≡ onto (numbersIn (startRecord s asked (paired ns os))) ns) × (os′ ≡ onto (offsetsIn (startRecord s asked (paired ns os))) os))
+
+module _ (s asked ns os : List ℕ) where
+  -- a refusal changes nothing
+  none-changed : (n : ℕ) → n ≡ startRefusal s asked (length (paired ns os)) → (n ≡ 0 → ⊥) → Outcome s asked ns os (refused n) ns os
+  unfolding startAsked startRecord
+  none-changed n e some =
+      let m : startRefusal s asked (length (paired ns os)) ≡ 0 → ⊥ = λ z. some (e ∙ z) in
+      let same : startRecord s asked (paired ns os) ≡ paired ns os = simp (ne-eqb _ 0 m) in (
+        rw e (sym (answer-refused (startRefusal s asked (length (paired ns os))) tt m)),
+        (sym (ap (λ ps. onto (numbersIn ps) ns) same ∙ numbers-onto ns os), sym (ap (λ ps. onto (offsetsIn ps) os) same ∙ offsets-onto ns os)),
+      )
+
+  module _ (r : ℕ) (er : r ≡ fileRefusal s) (t : Tables) (et : t ≡ tablesOf s) where
+    pub start-refused : (r ≡ 0 → ⊥) → Outcome s asked ns os (refused r) ns os
+    unfolding startRefusal
+    start-refused n = none-changed r (er ∙ sym (stops (fileRefusal s) _ (λ z. n (er ∙ z)))) n
+
+    module _ (h : r ≡ 0) where
+      fine : fileRefusal s ≡ 0
+      fine = sym er ∙ h
+
+      count : t .facilities ≡ facilityCount s
+      count = start-known s t et fine .facilities
+
+      pub start-no-room : (ltb (length ns) (t .facilities) || ltb (length os) (t .facilities)) ≡ true → Outcome s asked ns os (refused 21) ns os
+      unfolding startRefusal
+      start-no-room q =
+          let c = count in
+          let l = length-paired ns os in
+          let short : length (paired ns os) < facilityCount s =
+          or-either (ltb (length ns) (t .facilities)) (ltb (length os) (t .facilities)) q
+          (λ a. let b : length ns < t .facilities = ltb-true _ _ a in omega arith) (λ a. let b : length os < t .facilities = ltb-true _ _ a in omega arith) in
+          none-changed 21 (sym (rw (fine, lt-leb (facilityCount s) (length (paired ns os)) short))) (λ z. eqb-false 21 0 refl z)
+
+      module _ (q : (ltb (length ns) (t .facilities) || ltb (length os) (t .facilities)) ≡ false) where
+        pub start-room : (t .facilities ≤ length ns) × (t .facilities ≤ length os)
+        start-room =
+            let b = or-none (ltb (length ns) (t .facilities)) (ltb (length os) (t .facilities)) q in (ltb-false _ _ (b .0), ltb-false _ _ (b .1))
+
+        enough : facilityCount s ≤ length (paired ns os)
+        enough = let c = count in let l = length-paired ns os in let b = start-room .0 in let d = start-room .1 in omega arith
+
+        pub start-other-length : (length asked ≡ t .facilities → ⊥) → Outcome s asked ns os (refused 22) ns os
+        unfolding startRefusal
+        start-other-length n =
+            let c = count in
+            let d : length asked ≡ facilityCount s → ⊥ = λ z. n (z ∙ sym c) in
+            none-changed 22 (sym (rw (fine, le-leb (facilityCount s) (length (paired ns os)) enough, ne-eqb _ _ d))) (λ z. eqb-false 22 0 refl z)
+
+        module _ (k : length asked ≡ t .facilities) (ns′ os′ : List ℕ) (en : ns′ ≡ onto (range 0 (t .facilities)) ns) (eo : os′ ≡ onto (replicate (t .facilities) 0) os) where
+          pub start-asks : Starting s t asked os′
+          start-asks =
+              let n : ℕ = t .facilities in
+              let z : length (replicate {A = ℕ} n 0) ≡ n = length-replicate n 0 in
+              let b = start-room .1 in
+              record {
+                tables = et;
+                accepted = fine;
+                bytes = k;
+                room = rw (eo, length-onto (replicate n 0) os (omega arith)) b;
+                none = λ f l. rw eo (List·getD-append (replicate n 0) (drop (length (replicate {A = ℕ} n 0)) os) 0 f (omega arith) ∙ getD-replicate n f 0 0 l);
+              }
+
+          pub start-done : (os″ : List ℕ) → os″ ≡ onto (startOffsets s asked) os′ → Outcome s asked ns os (given tt) ns′ os″
+          unfolding startAsked startRecord startRefusal
+          start-done os″ e =
+              let c = count in
+              let z : startRefusal s asked (length (paired ns os)) ≡ 0 =
+              rw (fine, le-leb (facilityCount s) (length (paired ns os)) enough, eq-eqb (length asked) (facilityCount s) (k ∙ c)) in
+              let same : startRecord s asked (paired ns os) ≡ withOffsets (paired ns os) (startOffsets s asked) = rw z in
+              let l : length (startOffsets s asked) ≡ t .facilities = length-start s asked ∙ sym c in (
+                sym (answer-given (startRefusal s asked (length (paired ns os))) tt z),
+                (
+                  en ∙ sym (ap (λ ps. onto (numbersIn ps) ns) same ∙ numbers-with ns os (startOffsets s asked) ∙ rw l),
+                  e
+                      ∙ rw eo (onto-again (startOffsets s asked) (replicate (t .facilities) 0) os (l ∙ sym (length-replicate (t .facilities) 0)))
+                      ∙ sym (ap (λ ps. onto (offsetsIn ps) os) same ∙ offsets-with-given ns os (startOffsets s asked)),
+                ),
+              )
