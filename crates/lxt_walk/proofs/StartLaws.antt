@@ -1,16 +1,15 @@
 -- Starting a walk: the loops that fill its record, and a law for each way out.
-use Prim.Native.Nat.{ℕ, zero, suc, _+_, _-_, _≤_, _<_, min}
-use native.Mathlib.Nat.{zero-add}
+use Prim.Native.Nat.{ℕ, zero, suc, _+_, _-_, _≤_, _<_}
 use native.Mathlib.Omega.{arith}
 use native.Mathlib.Decide.{ℕ-discrete}
 use mathlib.Core.Path.{_≡_, refl, sym, ap, _∙_}
 use mathlib.Core.Bool.{Bool, true, false, not, _&&_, _||_}
 use mathlib.Core.List.{List, [], _∷_, _++_}
-use lib.ListN.{length, getD, set, take, drop, replicate, length-set, length-replicate, getD-replicate, replicate-append-replicate, take-append-drop, List·getD-append}
+use lib.ListN.{length, getD, set, take, drop, replicate, length-set, length-replicate, getD-replicate, take-append-drop, List·getD-append}
 use lib.Seq.{getD-set-same, getD-set-other, drop-set-lt, getD-take, length-take-le, ext-getD}
-use lib.Dec.{leb, ltb, eqb}
+use lib.Dec.{ltb, eqb}
 use borrow.Author.Tests.{eq-eqb, ne-eqb, le-leb, lt-leb, ltb-true, ltb-false, eqb-false}
-use Rattle.lxt_format.specs.Basics.{if_then_else_, _unless_, _orElse_, Answer, given, refused, answer, lentAfter, range, any}
+use Rattle.lxt_format.specs.Basics.{if_then_else_, Answer, given, refused, answer, range, any}
 use Rattle.lxt_format.specs.BasicsLaws.{or-either, or-none, stops, answer-given, answer-refused, length-range, range-upto, range-done}
 use Rattle.lxt_format.specs.Sections.{facilityCount}
 use Rattle.lxt_format.specs.Geometry.{rootOf, syncOf}
@@ -20,7 +19,6 @@ use Rattle.lxt_format.specs.JudgeLaws.{accepted}
 use Rattle.lxt_format.specs.Columns.{paired, numbersIn, offsetsIn, onto}
 use Rattle.lxt_format.specs.Walk.{asks, startOffsets, withOffsets}
 use Rattle.lxt_format.specs.Questions.{startRefusal, startAsked, startRecord}
-use Rattle.lxt_format.specs.declared.Pair.{Pair}
 use Rattle.lxt_tables.specs.Stage.{Geometry, tablesOf}
 use Rattle.lxt_tables.specs.Asked.{Sync}
 use Rattle.lxt_tables.specs.declared.Tables.{Tables}
