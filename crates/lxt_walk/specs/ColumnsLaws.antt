@@ -1,11 +1,11 @@
 -- Laws of a walk record over two slices: its pairs, and what its two columns hold afterwards.
-use Prim.Native.Nat.{ℕ, zero, suc, _<_, min}
+use Prim.Native.Nat.{ℕ, zero, suc, _≤_, _<_, min}
 use native.Mathlib.Nat.{min-zero, zero-min, suc-min-suc}
 use native.Mathlib.Omega.{arith}
 use mathlib.Core.Path.{_≡_, refl, sym, ap, _∙_}
 use mathlib.Core.List.{List, [], _∷_, _++_, map, append-assoc}
-use lib.ListN.{length, getD, take, drop, length-append, length-map}
-use lib.Seq.{take-nil, drop-drop}
+use lib.ListN.{length, getD, set, take, drop, length-append, length-map}
+use lib.Seq.{take-nil, drop-drop, drop-at}
 use Rattle.lxt_format.specs.Basics.{range}
 use Rattle.lxt_format.specs.BasicsLaws.{length-range}
 use Rattle.lxt_format.specs.Columns.{paired, numbersIn, offsetsIn, onto}
@@ -80,6 +80,28 @@ pub offsets-onto : (ns os : List ℕ) → onto (offsetsIn (paired ns os)) os ≡
 offsets-onto [] os = refl
 offsets-onto (n ∷ ns) [] = refl
 offsets-onto (n ∷ ns) (o ∷ os) = ap (λ l. o ∷ l) (offsets-onto ns os)
+
+-- ---- a list whose first elements are replaced
+
+-- it keeps its length
+pub length-onto : {A : Type 0} (l r : List A) → length l ≤ length r → length (onto l r) ≡ length r
+length-onto [] r h = refl
+length-onto (x ∷ l) [] h = absurd (omega arith)
+length-onto (x ∷ l) (y ∷ r) h = ap suc (length-onto l r (omega arith))
+
+-- to store the element that follows is to replace one more
+onto-here : {A : Type 0} (l r : List A) (x : A) → length l < length r → set (onto l r) (length l) x ≡ onto (l ++ (x ∷ [])) r
+onto-here [] [] x h = absurd (omega arith)
+onto-here [] (y ∷ r) x h = refl
+onto-here (a ∷ l) [] x h = absurd (omega arith)
+onto-here (a ∷ l) (y ∷ r) x h = ap (λ q. a ∷ q) (onto-here l r x (omega arith))
+
+pub onto-next : {A : Type 0} (l r : List A) (x : A) (k : ℕ) → length l ≡ k → k < length r → set (onto l r) k x ≡ onto (l ++ (x ∷ [])) r
+onto-next l r x k e h = rw (← e) (onto-here l r x (omega arith))
+
+-- to replace as many twice is to replace them once
+pub onto-again : {A : Type 0} (l m r : List A) → length l ≡ length m → onto l (onto m r) ≡ onto l r
+onto-again l m r e = ap (λ q. l ++ q) (drop-at m (drop (length m) r) (length l) (sym e) ∙ rw e)
 
 -- ---- a record with given pending offsets
 
