@@ -23,8 +23,27 @@ use Rattle.lxt_chains.specs.Bridge.{all-roots, length-roots, getD-roots}
 use Rattle.lxt_chains.specs.Check17.{stacked, stacked-quiet, stacked-step, each-step}
 use Rattle.lxt_chains.specs.Accepted.{Allowed, all-allowed, allowed-sound, apart-stacked}
 use Rattle.lxt_chains.specs.Reading.{Ready, Stepping, Pending, rootOffset}
-use Rattle.lxt_chains.specs.Tree.{Room, Blank, Holding}
+use Rattle.lxt_chains.specs.Tree.{Holding}
+use Rattle.lxt_chains.proofs.TreeLaws.{Filled, fill-ended}
 use Rattle.lxt_chains.specs.declared.chains.Chains.{Chains}
+
+-- an allowed change lies in the file, and the one before it has a small offset
+module _ (s : List ℕ) (inside : endOf s ≤ length s) (small : length s ≤ 16777216) (f o : ℕ) (allowed : Allowed s (pairOf f o)) where
+  sound-here : Sound s (changesFrom s) (endOf s) (ownFacts s f .kind) (ownFacts s f .width) o
+  sound-here = allowed-sound s allowed
+
+  pub allowed-inside : (o < length s) × (dataAt s o ≤ length s)
+  allowed-inside =
+      let a = sound-here .before in
+      let b = sound-here .ends in
+      let d : dataAt s o ≤ changeEnd s (endOf s) (ownFacts s f .kind) (ownFacts s f .width) o = (unfold changeEnd in omega arith) in
+      (omega (arith, inside), omega (arith, inside))
+
+  pub allowed-previous : (p : ℕ) → p ≡ previousOf s o → p < 16777216
+  allowed-previous p ep =
+      let a = previous-lt s o (allowed .change) in
+      let b = allowed-inside .0 in
+      omega (arith, small)
 
 -- what is left to test below a bound gives what the whole gives
 pub record Sweeping (s : List ℕ) (c : Chains) (os₀ : List ℕ) (bound : ℕ) (os : List ℕ) : Type 0 where
@@ -52,29 +71,19 @@ module _ (s : List ℕ) (c : Chains) (os₀ : List ℕ) (bound : ℕ) (os : List
     allowed : Allowed s (pairOf f o)
     allowed = rw (ef, eo) (each-step s os positive (v .pending .each) .0)
 
-    sound-here : Sound s (changesFrom s) (endOf s) (ownFacts s f .kind) (ownFacts s f .width) o
-    sound-here = allowed-sound s allowed
-
     pub stepping : Stepping s c f o bound
     stepping =
-        let a = sound-here .before in
+        let a = allowed-sound s allowed .before in
         record { number = number-below; root = allowed .root; offset = rw (w .end) a; bounded = v .bounded }
 
+    ending : endOf s ≤ length s
+    ending = omega (arith, w .end, w .within)
+
     pub change-inside : (o < length s) × (dataAt s o ≤ length s)
-    change-inside =
-        let a = sound-here .before in
-        let b = sound-here .ends in
-        let e = w .end in
-        let l = w .within in
-        let d : dataAt s o ≤ changeEnd s (endOf s) (ownFacts s f .kind) (ownFacts s f .width) o = (unfold changeEnd in omega arith) in
-        (omega arith, omega arith)
+    change-inside = allowed-inside s ending (w .short) f o allowed
 
     pub previous-small : (p : ℕ) → p ≡ previousOf s o → p < 16777216
-    previous-small p ep =
-        let a = previous-lt s o (omega arith) in
-        let b = change-inside .0 in
-        let d = w .short in
-        omega arith
+    previous-small p ep = allowed-previous s ending (w .short) f o allowed p ep
 
     module _ (z : Bool) (ez : z ≡ leb (endAt s (pairOf f o)) bound) where
       here : stacked (endAt s) bound (sort (pendingChanges s 0 os)) ≡ (z && stacked (endAt s) o (sort (pendingChanges s 0 (step s os))))
@@ -114,48 +123,13 @@ module _ (s : List ℕ) (f : ℕ) (a : Bool) (ea : a ≡ isAlias s f) where
   unfolding rootOffset
   sync-offset h o eo = eo ∙ rw (← ea, h)
 
--- the offsets of the first f facilities are in the leaves, and 0 past them
-pub record Filled (s : List ℕ) (n m f : ℕ) (nodes : List ℕ) : Type 0 where
-  pub upto : f ≤ n
-  pub fits : n ≤ m
-  pub room : Room m nodes
-  pub there : (i : ℕ) → i < f → getD nodes (m + i) 0 ≡ rootOffset s i
-  pub rest : (i : ℕ) → f ≤ i → getD nodes (m + i) 0 ≡ 0
-
-pub fill-begun : (s : List ℕ) (n m : ℕ) (nodes : List ℕ) → n ≤ m → Blank m nodes → Filled s n m 0 nodes
-fill-begun s n m nodes h b =
-    record { upto = omega arith; fits = h; room = b .room; there = λ i k. absurd (omega arith); rest = λ i k. b .none (m + i) }
-
-module _ (s : List ℕ) (n m f : ℕ) (nodes : List ℕ) (w : Filled s n m f nodes) where
-  pub fill-next : f < n → (o : ℕ) → o ≡ rootOffset s f → Filled s n m (f + 1) (set nodes (m + f) o)
-  fill-next h o eo =
-      let l = w .room .long in
-      let k = w .fits in
-      record {
-        upto = omega arith;
-        fits = w .fits;
-        room = record { long = length-set nodes (m + f) o ∙ l; level = w .room .level };
-        there = λ i b. elim (ℕ-discrete i f) [
-          | yes e ↦ rw e (getD-set-same nodes (m + f) o 0 (omega arith) ∙ eo)
-          | no d ↦ getD-set-other nodes (m + f) (m + i) o 0 (λ q. d (omega arith)) ∙ w .there i (omega arith)
-        ];
-        rest = λ i b. getD-set-other nodes (m + f) (m + i) o 0 (λ q. omega arith) ∙ w .rest i (omega arith);
-      }
-
-  pub fill-ended : (c : Chains) → Ready s c → c .facilities ≡ n → n ≤ f → Holding (rootOffsets s) m nodes
-  unfolding rootOffset
-  fill-ended c r e h =
-      let k = r .geometry .count in
-      let u = w .upto in
-      let long = length-roots s in
-      record {
-        room = w .room;
-        leaves = λ i. getD-drop m nodes i 0
-            ∙ elim (decLe n i) [
-              | yes q ↦ w .rest i (omega arith) ∙ sym (List·getD-eq-default (rootOffsets s) 0 {n = i} (omega arith))
-              | no q ↦ w .there i (omega arith) ∙ sym (getD-roots s i (omega arith))
-            ];
-      }
+-- the leaves hold the offset of each facility at the end
+pub roots-ended : (s : List ℕ) (c : Chains) (m f : ℕ) (nodes : List ℕ) → Filled (rootOffset s) (c .facilities) m f nodes → Ready s c → c .facilities ≤ f
+    → Holding (rootOffsets s) m nodes
+unfolding rootOffset
+roots-ended s c m f nodes w r h =
+    let k = r .geometry .count in
+    fill-ended (rootOffset s) (c .facilities) m f nodes w (rootOffsets s) (length-roots s ∙ sym k) (λ i b. sym (getD-roots s i (omega arith))) h
 
 -- ---- the whole check
 

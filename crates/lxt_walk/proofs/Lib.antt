@@ -1,0 +1,3 @@
+pub mod HandLaws
+pub mod CarryWays
+pub mod StartLaws

@@ -3,6 +3,7 @@ use Prim.Native.Nat.{ℕ, _≤_, _<_}
 use mathlib.Core.Path.{_≡_}
 use mathlib.Core.List.{List}
 use lib.ListN.{length, getD, take}
+use Rattle.lxt_format.specs.Sections.{facilityCount, endOf}
 use Rattle.lxt_format.specs.Judge.{fileRefusal}
 use Rattle.lxt_format.specs.Walk.{sort}
 use Rattle.lxt_tables.specs.Stage.{tablesOf}
@@ -10,9 +11,7 @@ use Rattle.lxt_tables.specs.declared.Tables.{Tables}
 use Rattle.lxt_chains.specs.Pending.{pendingChanges}
 use Rattle.lxt_chains.specs.Lists.{Each}
 use Rattle.lxt_chains.specs.Accepted.{Allowed}
-use Rattle.lxt_chains.specs.Reading.{Ready}
 use Rattle.lxt_chains.specs.Tree.{Tree, Blank, Holding}
-use Rattle.lxt_chains.specs.declared.chains.Chains.{Chains}
 
 -- the tables of an accepted file, a byte for each facility, and a pending offset for each, all of them 0
 pub record Starting (s : List ℕ) (t : Tables) (asked offsets : List ℕ) : Type 0 where
@@ -22,21 +21,23 @@ pub record Starting (s : List ℕ) (t : Tables) (asked offsets : List ℕ) : Typ
   pub room : t .facilities ≤ length offsets
   pub none : (f : ℕ) → f < t .facilities → getD offsets f 0 ≡ 0
 
--- a pending offset for each facility, from which on every change is allowed
-pub record Walkable (s : List ℕ) (c : Chains) (offsets : List ℕ) : Type 0 where
-  pub ready : Ready s c
-  pub wide : c .facilities ≤ length offsets
-  pub each : Each (Allowed s) (sort (pendingChanges s 0 (take (c .facilities) offsets)))
+-- a file whose tables have passed, and a pending offset for each facility, from which on every change is allowed
+pub record Walkable (s offsets : List ℕ) : Type 0 where
+  pub small : length s ≤ 16777216
+  pub inside : endOf s ≤ length s
+  pub few : facilityCount s ≤ 4096
+  pub wide : facilityCount s ≤ length offsets
+  pub each : Each (Allowed s) (sort (pendingChanges s 0 (take (facilityCount s) offsets)))
 
 -- and room for a tree that has a leaf for each
-pub record Filled (s : List ℕ) (c : Chains) (m : ℕ) (nodes offsets : List ℕ) : Type 0 where
-  pub walkable : Walkable s c offsets
-  pub leaves : c .facilities ≤ m
+pub record Filled (s : List ℕ) (m : ℕ) (nodes offsets : List ℕ) : Type 0 where
+  pub walkable : Walkable s offsets
+  pub leaves : facilityCount s ≤ m
   pub blank : Blank m nodes
 
 -- and a tree whose leaves hold them
-pub record Carrying (s : List ℕ) (c : Chains) (m : ℕ) (nodes offsets : List ℕ) : Type 0 where
-  pub walkable : Walkable s c offsets
-  pub leaves : c .facilities ≤ m
+pub record Carrying (s : List ℕ) (m : ℕ) (nodes offsets : List ℕ) : Type 0 where
+  pub walkable : Walkable s offsets
+  pub leaves : facilityCount s ≤ m
   pub tree : Tree m nodes
-  pub holding : Holding (take (c .facilities) offsets) m nodes
+  pub holding : Holding (take (facilityCount s) offsets) m nodes

@@ -5,6 +5,7 @@ pub mod Wider
 pub mod Roots
 pub mod Full
 pub mod Record
+pub mod ColumnsLaws
 pub mod Telling
 pub mod Demand
 pub mod Examples

@@ -49,7 +49,7 @@ getD-numbered i (o ∷ os) (suc f) d h =
     let e : suc i + f ≡ i + suc f = omega arith in getD-numbered (suc i) os f d (omega arith) ∙ ap (λ n. pairOf n (getD os f 0)) e
 
 -- the offsets of the pairs are the given ones
-offsets-numbered : (i : ℕ) (os : List ℕ) → map (λ p. p .offset) (numbered i os) ≡ os
+pub offsets-numbered : (i : ℕ) (os : List ℕ) → map (λ p. p .offset) (numbered i os) ≡ os
 unfolding numbered
 offsets-numbered i [] = refl
 offsets-numbered i (o ∷ os) = ap (λ l. o ∷ l) (offsets-numbered (suc i) os)

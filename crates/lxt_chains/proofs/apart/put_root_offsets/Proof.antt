@@ -1,11 +1,13 @@
 use borrow.Author.Needs.{needs}
 use Prim.Native.Nat.{_-_}
-use Rattle.lxt_chains.proofs.ApartLaws.{Filled, fill-begun, fill-next, fill-ended}
+use Rattle.lxt_chains.specs.Reading.{rootOffset}
+use Rattle.lxt_chains.proofs.TreeLaws.{Filled, fill-begun, fill-next}
+use Rattle.lxt_chains.proofs.ApartLaws.{roots-ended}
 use Rattle.lxt_chains.proofs.apart.put_root_offsets.Statement.{statement}
 use Rattle.lxt_chains.proofs.apart.put_root_offsets.Tie as tie
 
 abbrev Inv-loop : tie.InvT-loop
-Inv-loop file c nodes₀ m f₀ nodes f = Filled file (c .facilities) m f nodes
+Inv-loop file c nodes₀ m f₀ nodes f = Filled (rootOffset file) (c .facilities) m f nodes
 
 abbrev μ-loop : tie.MeasureT-loop
 μ-loop file c nodes₀ m f₀ nodes f = c .facilities - f
@@ -41,7 +43,7 @@ same-length : tie.Need-same-length Inv-loop μ-loop
 same-length c = search needs
 
 returns : tie.Need-returns Inv-loop μ-loop
-returns c = search fill-ended
+returns c = search roots-ended
 
 pub put-root-offsets-spec : {M : Type 1} → statement M
 put-root-offsets-spec =
