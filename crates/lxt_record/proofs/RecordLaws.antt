@@ -6,13 +6,13 @@ use native.Mathlib.Omega.{arith}
 use native.Mathlib.Decide.{decLe}
 use mathlib.Core.Path.{_≡_, refl, sym, _∙_, ap}
 use mathlib.Core.Bool.{Bool, true, false, _&&_}
-use mathlib.Core.List.{List, [], _∷_, _++_, map}
-use lib.ListN.{length, getD, take, drop, take-append-drop, length-append, length-map, length-drop}
-use lib.Seq.{length-take-le, take-at, take-take, getD-take, drop-append-le}
+use mathlib.Core.List.{List, [], _∷_, _++_, map, append-assoc, append-nil}
+use lib.ListN.{length, getD, take, drop, take-append-drop, length-map, drop-of-length-le}
+use lib.Seq.{length-take-le, take-all, take-at, take-take, getD-take, drop-append-le}
 use lib.Dec.{leb, eqb, lit<}
 use borrow.Author.Tests.{leb-true, le-leb, lt-leb, eqb-true}
 use Rattle.lxt_format.specs.Basics.{Answer, range, all, if_then_else_, _orElse_, _unless_, answer, lentAfter}
-use Rattle.lxt_format.specs.BasicsLaws.{on-test, on-zero, stops, passes, neither, kept}
+use Rattle.lxt_format.specs.BasicsLaws.{on-test, on-zero, and-both, stops, neither, kept, length-range, all-range}
 use Rattle.lxt_format.specs.Sections.{facilityCount}
 use Rattle.lxt_format.specs.Judge.{tablesRefusal, fileRefusal}
 use Rattle.lxt_format.specs.JudgeLaws.{passed, passed-count, accepted}
@@ -25,20 +25,11 @@ use Rattle.lxt_format.specs.declared.CarryAnswer.{CarryAnswer}
 use Rattle.lxt_format.specs.Answers.{startSays, carrySays}
 use Rattle.lxt_walk.specs.Calls.{Starts, Carries}
 use Rattle.lxt_walk.specs.Handed.{length-after}
-use Rattle.lxt_walk.specs.Record.{length-numbered}
+use Rattle.lxt_walk.specs.Record.{length-with}
+use Rattle.lxt_walk.specs.ColumnsLaws.{length-paired, getD-paired, take-paired, length-numbers, length-offsets, paired-columns, numbers-paired, numbers-with}
 use Rattle.lxt_record.specs.Rooms.{none, pairAt, over}
 
 -- ---- pairs and their numbers and offsets
-
-pub paired-columns : (ts : List Pair) → paired (numbersIn ts) (offsetsIn ts) ≡ ts
-paired-columns [] = refl
-paired-columns (p ∷ ts) = ap (λ (l : List Pair). p ∷ l) (paired-columns ts)
-
-pub take-paired : (n : ℕ) (ns os : List ℕ) → take n (paired ns os) ≡ paired (take n ns) (take n os)
-take-paired zero ns os = refl
-take-paired (suc n) [] os = refl
-take-paired (suc n) (x ∷ ns) [] = refl
-take-paired (suc n) (x ∷ ns) (o ∷ os) = ap (λ (l : List Pair). record { number = x; offset = o } ∷ l) (take-paired n ns os)
 
 -- the first elements of a copy are those copied
 take-over : {A : Type 0} (d s : List A) (n : ℕ) → n ≤ length s → take n (over d s n) ≡ take n s
@@ -57,10 +48,6 @@ drop-take : {A : Type 0} (n room : ℕ) (l : List A) → n ≤ room → room ≤
 drop-take n room l h k =
     sym (drop-append-le n (take room l) (drop room l) (rw (length-take-le room l k) h)) ∙ ap (drop n) (take-append-drop room l)
 
-append-assoc : {A : Type 0} (a b c : List A) → (a ++ b) ++ c ≡ a ++ (b ++ c)
-append-assoc [] b c = refl
-append-assoc (x ∷ a) b c = ap (λ l. x ∷ l) (append-assoc a b c)
-
 -- other pending offsets of the first pairs are other pending offsets of all
 with-room : (ts : List Pair) (os : List ℕ) (room : ℕ) → length os ≤ room → room ≤ length ts → withOffsets (take room ts) os ++ drop room ts ≡ withOffsets ts os
 unfolding withOffsets
@@ -70,9 +57,9 @@ offsets-room : (n room : ℕ) (ts : List Pair) → n ≤ room → offsetsOf n (t
 unfolding offsetsOf
 offsets-room n room ts h = rw (take-take n room ts h)
 
-length-offsets : (n : ℕ) (ts : List Pair) → n ≤ length ts → length (offsetsOf n ts) ≡ n
+length-pending : (n : ℕ) (ts : List Pair) → n ≤ length ts → length (offsetsOf n ts) ≡ n
 unfolding offsetsOf
-length-offsets n ts h = length-map (take n ts) (λ (p : Pair). p .offset) ∙ length-take-le n ts h
+length-pending n ts h = length-map (take n ts) (λ (p : Pair). p .offset) ∙ length-take-le n ts h
 
 -- tests that agree on a range
 all-same : (p q : ℕ → Bool) (i k : ℕ) → ((j : ℕ) → i ≤ j → j < i + k → p j ≡ q j) → all p (range i k) ≡ all q (range i k)
@@ -84,14 +71,9 @@ allowed-room : (s : List ℕ) (ts : List Pair) (room : ℕ) → facilityCount s 
 unfolding recordAllowed
 allowed-room s ts room h = all-same _ _ 0 (facilityCount s) (λ f a b. ap (pairAllowed s f) (getD-take room ts f none (omega arith)))
 
-length-range′ : (i k : ℕ) → length (range i k) ≡ k
-unfolding range
-length-range′ i zero = refl
-length-range′ i (suc k) = ap suc (length-range′ (suc i) k)
-
 length-start : (s asked : List ℕ) → length (startOffsets s asked) ≡ facilityCount s
 unfolding startOffsets
-length-start s asked = length-map (range 0 (facilityCount s)) _ ∙ length-range′ 0 (facilityCount s)
+length-start s asked = length-map (range 0 (facilityCount s)) _ ∙ length-range 0 (facilityCount s)
 
 -- ---- the room of a record
 
@@ -171,7 +153,7 @@ module _ (s : List ℕ) (ts : List Pair) (room : ℕ) (e : room ≡ min (length 
       rw (carry-refusal size out)
       (on-test (eqb (carryRefusal s ts size out) 0)
       (λ t. let c = carry-count size out (eqb-true _ _ t) in
-      let l : length (offsetsAfter s size (offsetsOf n ts)) ≤ room = omega (arith, length-after s size (offsetsOf n ts), length-offsets n ts (omega (arith, c, fits)), c) in
+      let l : length (offsetsAfter s size (offsetsOf n ts)) ≤ room = omega (arith, length-after s size (offsetsOf n ts), length-pending n ts (omega (arith, c, fits)), c) in
       rw (t, offsets-room n room ts c) (with-room ts (offsetsAfter s size (offsetsOf n ts)) room l fits))
       (λ t. rw t (take-append-drop room ts)))
 
@@ -200,3 +182,114 @@ module _ (s : List ℕ) (ts : List Pair) (room : ℕ) (e : room ≡ min (length 
         together xs zs₂ _ ts₃ (e₂ .1 .1 ∙ ap (λ (l : List Pair). carryRecord s l size (length out)) apart) e₃ ∙ carry-record size (length out),
       ),
     )
+
+-- ---- the work over the first `room` numbers and offsets
+
+-- a list that is replaced whole
+onto-all : {A : Type 0} (l r : List A) → length l ≡ length r → onto l r ≡ l
+onto-all l r h = ap (λ q. l ++ q) (drop-of-length-le r {i = length l} (omega (arith, h))) ∙ append-nil l
+
+-- numbers that stand in order
+in-order : (i k : ℕ) (l : List ℕ) → k ≤ length l → ((f : ℕ) → f < k → getD l f 0 ≡ i + f) → take k l ≡ range i k
+unfolding range
+in-order i zero l h each = refl
+in-order i (suc k) [] h each = absurd (omega arith)
+in-order i (suc k) (x ∷ l) h each =
+    let first : x ≡ i = omega (arith, each 0 (omega arith)) in
+    let rest = in-order (suc i) k l (omega arith) (λ f a. let e = each (suc f) (omega arith) in omega (arith, e)) in
+    rw (first, rest)
+
+-- a start keeps the record's length
+length-started : (s asked : List ℕ) (ts : List Pair) → length (startRecord s asked ts) ≡ length ts
+unfolding startRecord startRefusal
+length-started s asked ts =
+    on-test (eqb (startRefusal s asked (length ts)) 0)
+    (λ t. let a = neither (fileRefusal s) _ (eqb-true _ _ t) in
+    let b = neither (21 unless leb (facilityCount s) (length ts)) _ (a .1) in
+    rw t (length-with ts (startOffsets s asked) (rw (length-start s asked) (leb-true (facilityCount s) (length ts) (kept 21 _ (lit< tt) (b .0))))))
+    (λ t. rw t)
+
+module _ (s ns os : List ℕ) (room : ℕ) (hn : room ≤ length ns) (ho : room ≤ length os) where
+  -- the pairs
+  abbrev part : List Pair
+  part = paired (take room ns) (take room os)
+
+  length-part : length part ≡ room
+  length-part = length-paired (take room ns) (take room os) ∙ rw (length-take-le room ns hn, length-take-le room os ho) (omega arith)
+
+  module _ (after : List Pair) (same : length after ≡ length part) where
+    -- a part of the numbers, or of the offsets, that is replaced whole
+    numbers-part : (l : List ℕ) → l ≡ onto (numbersIn after) (take room ns) → take room (l ++ drop room ns) ≡ numbersIn after
+    numbers-part l e =
+        let long : length (numbersIn after) ≡ room = length-numbers after ∙ same ∙ length-part in
+        let whole : l ≡ numbersIn after = e ∙ onto-all (numbersIn after) (take room ns) (long ∙ sym (length-take-le room ns hn)) in
+        rw whole (take-at (numbersIn after) (drop room ns) room long)
+
+    offsets-part : (l : List ℕ) → l ≡ onto (offsetsIn after) (take room os) → take room (l ++ drop room os) ≡ offsetsIn after
+    offsets-part l e =
+        let long : length (offsetsIn after) ≡ room = length-offsets after ∙ same ∙ length-part in
+        let whole : l ≡ offsetsIn after = e ∙ onto-all (offsetsIn after) (take room os) (long ∙ sym (length-take-le room os ho)) in
+        rw whole (take-at (offsetsIn after) (drop room os) room long)
+
+  pub start-in : (asked : List ℕ) (r : StartAnswer) (l m : List ℕ)
+      → startSays r ≡ startAsked s asked (length part) → l ≡ onto (numbersIn (startRecord s asked part)) (take room ns) → m ≡ onto (offsetsIn (startRecord s asked part)) (take room os)
+      → (startSays r ≡ startAsked s asked room) × (paired (take room (l ++ drop room ns)) (take room (m ++ drop room os)) ≡ startRecord s asked part)
+  start-in asked r l m e₀ e₁ e₂ =
+      let after = startRecord s asked part in
+      let same = length-started s asked part in (
+        e₀ ∙ ap (startAsked s asked) length-part,
+        (λ i. paired (numbers-part after same l e₁ i) (offsets-part after same m e₂ i)) ∙ paired-columns after,
+      )
+
+  -- a call that carries on keeps the record's length
+  length-carried : (size out : ℕ) → length (carryRecord s part size out) ≡ length part
+  unfolding carryRecord carryRefusal carryOffsets
+  length-carried size out =
+      on-test (eqb (carryRefusal s part size out) 0)
+      (λ t. let a = neither (tablesRefusal s) _ (eqb-true _ _ t) in
+      let b = neither (21 unless leb (facilityCount s) (length part)) _ (a .1) in
+      let c : facilityCount s ≤ length part = leb-true (facilityCount s) (length part) (kept 21 _ (lit< tt) (b .0)) in
+      let l : length (offsetsAfter s size (offsetsOf (facilityCount s) part)) ≤ length part = omega (arith, length-after s size (offsetsOf (facilityCount s) part), length-pending (facilityCount s) part c, c) in
+      rw t (length-with part (offsetsAfter s size (offsetsOf (facilityCount s) part)) l))
+      (λ t. rw t)
+
+  -- and its numbers
+  numbers-carried : (size out : ℕ) → numbersIn (carryRecord s part size out) ≡ take room ns
+  unfolding carryRecord carryRefusal carryOffsets recordAllowed pairAllowed
+  numbers-carried size out =
+      on-test (eqb (carryRefusal s part size out) 0)
+      (λ t. let a = neither (tablesRefusal s) _ (eqb-true _ _ t) in
+      let b = neither (21 unless leb (facilityCount s) (length part)) _ (a .1) in
+      let d = neither (20 unless recordAllowed s part) _ (b .1) in
+      let c : facilityCount s ≤ length part = leb-true (facilityCount s) (length part) (kept 21 _ (lit< tt) (b .0)) in
+      let given : List ℕ = offsetsAfter s size (offsetsOf (facilityCount s) part) in
+      let long : length given ≡ facilityCount s = length-after s size (offsetsOf (facilityCount s) part) ∙ length-pending (facilityCount s) part c in
+      let order : take (facilityCount s) (take room ns) ≡ range 0 (facilityCount s) = in-order 0 (facilityCount s) (take room ns) (omega (arith, c, length-part, length-take-le room ns hn)) (each c (kept 20 _ (lit< tt) (d .0))) in
+      rw t (
+      sym (onto-all (numbersIn (withOffsets part given)) (take room ns) (length-numbers (withOffsets part given) ∙ length-with part given (omega (arith, long, c)) ∙ length-part ∙ sym (length-take-le room ns hn)))
+      ∙ numbers-with (take room ns) (take room os) given
+      ∙ ap (λ k. onto (range 0 k) (take room ns)) long
+      ∙ ap (λ l. onto l (take room ns)) (sym order)
+      ∙ ap (λ k. take (facilityCount s) (take room ns) ++ drop k (take room ns)) (length-take-le (facilityCount s) (take room ns) (omega (arith, c, length-part, length-take-le room ns hn)))
+      ∙ take-append-drop (facilityCount s) (take room ns)))
+      (λ t. rw t (numbers-paired (take room ns) (take room os) ∙ take-all (length (take room os)) (take room ns) (omega (arith, length-take-le room ns hn, length-take-le room os ho))))
+    where
+      each : facilityCount s ≤ length part → recordAllowed s part ≡ true → (f : ℕ) → f < facilityCount s → getD (take room ns) f 0 ≡ 0 + f
+      each c h f l =
+          let p = and-both (eqb (getD part f none .number) f) _ (all-range _ 0 (facilityCount s) h f (omega arith) (omega (arith, l))) in
+          let e : getD part f none .number ≡ getD (take room ns) f 0 =
+          ap (λ (q : Pair). q .number) (getD-paired (take room ns) (take room os) f none (omega (arith, c, l, length-part, length-take-le room ns hn)) (omega (arith, c, l, length-part, length-take-le room os ho))) in
+          let n = eqb-true (getD part f none .number) f (p .0) in
+          omega (arith, e, n)
+
+  pub carry-in : (size : ℕ) (out out′ : List ℕ) (r : CarryAnswer) (m : List ℕ)
+      → carrySays r ≡ carryAsked s part size (length out) → m ≡ onto (offsetsIn (carryRecord s part size (length out))) (take room os) → out′ ≡ carryOutput s part size out
+      → (carrySays r ≡ carryAsked s part size (length out)) × ((out′ ≡ carryOutput s part size out) × (paired (take room ns) (take room (m ++ drop room os)) ≡ carryRecord s part size (length out)))
+  carry-in size out out′ r m e₀ e₁ e₂ =
+      let after = carryRecord s part size (length out) in (
+        e₀,
+        (
+          e₂,
+          (λ i. paired (sym (numbers-carried size (length out)) i) (offsets-part after (length-carried size (length out)) m e₁ i)) ∙ paired-columns after,
+        ),
+      )
