@@ -2,7 +2,7 @@
 --     lend-mut, back-mut      as a `&mut [T]`, for a lifetime ν that is made for it; ν is ended, and the elements are the last ones
 --     lend-shr, back-shr      as a `&[T]`
 -- Assumes `Given`.
-use mathlib.Core.Path.{_≡_, refl}
+use mathlib.Core.Path.{refl}
 use Prim.Native.Nat.{ℕ}
 use mathlib.Core.List.{List, [], _∷_}
 use lib.ListN.{length}

@@ -1,23 +1,23 @@
 -- What `start` and `carry_on` need of lists: a record's first `room` pairs, taken apart into numbers and offsets and put together again, give what the whole record gives. No file has more than 4,096
 -- facilities, so the pairs past `room` are never used.
 -- Assumes nothing.
-use Prim.Native.Nat.{ℕ, zero, suc, _+_, _-_, _*_, _≤_, _<_, min}
+use Prim.Native.Nat.{ℕ, zero, suc, _+_, _-_, _≤_, _<_, min}
 use native.Mathlib.Omega.{arith}
 use native.Mathlib.Decide.{decLe}
 use mathlib.Core.Path.{_≡_, refl, sym, _∙_, ap}
-use mathlib.Core.Bool.{Bool, true, false, _&&_}
-use mathlib.Core.List.{List, [], _∷_, _++_, map, append-assoc, append-nil}
+use mathlib.Core.Bool.{Bool, true}
+use mathlib.Core.List.{List, [], _∷_, _++_, append-assoc, append-nil}
 use lib.ListN.{length, getD, take, drop, take-append-drop, length-map, drop-of-length-le}
 use lib.Seq.{length-take-le, take-all, take-at, take-take, getD-take, drop-append-le}
 use lib.Dec.{leb, eqb, lit<}
 use borrow.Author.Tests.{leb-true, le-leb, lt-leb, eqb-true}
-use Rattle.lxt_format.specs.Basics.{Answer, range, all, if_then_else_, _orElse_, _unless_, answer, lentAfter}
+use Rattle.lxt_format.specs.Basics.{range, all, _unless_}
 use Rattle.lxt_format.specs.BasicsLaws.{on-test, on-zero, and-both, stops, neither, kept, length-range, all-range}
 use Rattle.lxt_format.specs.Sections.{facilityCount}
 use Rattle.lxt_format.specs.Judge.{tablesRefusal, fileRefusal}
 use Rattle.lxt_format.specs.JudgeLaws.{passed, passed-count, accepted}
 use Rattle.lxt_format.specs.Columns.{paired, numbersIn, offsetsIn, onto}
-use Rattle.lxt_format.specs.Walk.{numbered, withOffsets, offsetsOf, startOffsets, pairAllowed, recordAllowed, high, handedOut, offsetsAfter, flat}
+use Rattle.lxt_format.specs.Walk.{numbered, withOffsets, offsetsOf, startOffsets, pairAllowed, recordAllowed, offsetsAfter}
 use Rattle.lxt_format.specs.Questions.{startRefusal, startAsked, startRecord, carryRefusal, carryPairs, carryOffsets, carryAsked, carryRecord, carryOutput}
 use Rattle.lxt_format.specs.declared.Pair.{Pair}
 use Rattle.lxt_format.specs.declared.StartAnswer.{StartAnswer}
@@ -27,7 +27,7 @@ use Rattle.lxt_walk.specs.Calls.{Starts, Carries}
 use Rattle.lxt_walk.specs.Handed.{length-after}
 use Rattle.lxt_walk.specs.Record.{length-with}
 use Rattle.lxt_walk.specs.ColumnsLaws.{length-paired, getD-paired, take-paired, length-numbers, length-offsets, paired-columns, numbers-paired, numbers-with}
-use Rattle.lxt_record.specs.Rooms.{none, pairAt, over}
+use Rattle.lxt_record.specs.Rooms.{none, over}
 
 -- ---- pairs and their numbers and offsets
 

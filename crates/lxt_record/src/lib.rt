@@ -1,7 +1,9 @@
-// Starting a walk and carrying on, over a walk record that is a lent slice of pairs.
+// Starting a walk and carrying on, over a walk record that is a lent slice of pairs: the public calls of
+// the walk. The record is copied into two arrays of numbers and offsets, which lxt_walk works on, and back.
 ghost use mathlib.Core.Path.{_≡_};
 ghost use Prim.Native.Nat.{_≤_, min};
 ghost use lib.ListN.{length, take};
+ghost use Rattle.lxt_format.specs.Limits.{mostFacilities};
 ghost use Rattle.lxt_format.specs.Answers.{startSays, carrySays};
 ghost use Rattle.lxt_format.specs.Columns.{paired, numbersIn, offsetsIn};
 ghost use Rattle.lxt_format.specs.Questions.{startAsked, startRecord, carryAsked, carryRecord, carryOutput};
@@ -10,8 +12,9 @@ ghost use Rattle.lxt_record.specs.Rooms.{over};
 use lxt_format::CarryAnswer;
 use lxt_format::Pair;
 use lxt_format::StartAnswer;
+use lxt_format::Summary;
 
-// The fields of the first n pairs, each into a slice of its own.
+// Copies the first `n` pairs: their numbers into one slice, their offsets into another.
 fn unzip(pairs: &[Pair], n: usize, numbers: &mut [u32], offsets: &mut [u32])
     requires { ⌜ (n ≤ length (now pairs)) × (n ≤ length (now numbers)) × (n ≤ length (now offsets)) ⌝ }
     ensures { λ _. ⌜ (now (numbers .exit) ≡ over (now (numbers .entry)) (numbersIn (now (pairs .entry))) n) × (now (offsets .exit) ≡ over (now (offsets .entry)) (offsetsIn (now (pairs .entry))) n) ⌝ }
@@ -20,11 +23,11 @@ fn unzip(pairs: &[Pair], n: usize, numbers: &mut [u32], offsets: &mut [u32])
     while i < n {
         numbers[i] = pairs[i].number;
         offsets[i] = pairs[i].offset;
-        i = i + 1;
+        i += 1;
     }
 }
 
-// Back again.
+// Copies the first `n` numbers and offsets into pairs.
 fn zip(pairs: &mut [Pair], n: usize, numbers: &[u32], offsets: &[u32])
     requires { ⌜ (n ≤ length (now pairs)) × (n ≤ length (now numbers)) × (n ≤ length (now offsets)) ⌝ }
     ensures { λ _. ⌜ now (pairs .exit) ≡ over (now (pairs .entry)) (paired (now (numbers .entry)) (now (offsets .entry))) n ⌝ }
@@ -35,15 +38,16 @@ fn zip(pairs: &mut [Pair], n: usize, numbers: &[u32], offsets: &[u32])
             number: numbers[i],
             offset: offsets[i],
         };
-        i = i + 1;
+        i += 1;
     }
 }
 
-// How many pairs of a record a file can need: it has at most 4,096 facilities.
+// How many pairs of a record a walk can need: one for each facility of a file.
 fn room_for(pairs: usize) -> usize
-    ensures { λ r. ⌜ r ≡ min pairs 4096 ⌝ }
+    ensures { λ r. ⌜ r ≡ min pairs mostFacilities ⌝ }
 {
-    if pairs < 4096 { pairs } else { 4096 }
+    let most = Summary::MOST_FACILITIES as usize;
+    if pairs < most { pairs } else { most }
 }
 
 // Starts a walk over the first `room` numbers and offsets.

@@ -5,31 +5,24 @@ use Rattle.lxt_record.proofs.RecordLaws.{carry-in}
 use Rattle.lxt_record.proofs.carry_within.Statement.{statement}
 use Rattle.lxt_record.proofs.carry_within.Tie as tie
 
--- src/lib.rt:75:37
 slice-aggregate-carry-on : tie.Need-slice-aggregate-carry-on
 slice-aggregate-carry-on c = let b = c .before .before .before .before .before in sym (length-take-le (b .args .room) (b .args .numbers .now) (b .pre .0))
 
--- src/lib.rt:75:55
 slice-relend-prefix-carry-on : tie.Need-slice-relend-prefix-carry-on
 slice-relend-prefix-carry-on c = search needs
 
--- src/lib.rt:75:55
 slice-aggregate-carry-on-2 : tie.Need-slice-aggregate-carry-on-2
 slice-aggregate-carry-on-2 c = let b = c .before .before .before .before .before .before in sym (length-take-le (b .args .room) (b .args .offsets .now) (b .pre .1))
 
--- src/lib.rt:75:5
 carry-on-requires : tie.Need-carry-on-requires
 carry-on-requires c κs = search needs
 
--- src/lib.rt:64:1
 same-length : tie.Need-same-length
 same-length c = search needs
 
--- src/lib.rt:64:1
 same-length-2 : tie.Need-same-length-2
 same-length-2 c = search needs
 
--- src/lib.rt:64:1
 returns : tie.Need-returns
 returns c =
     let call = c .before .before .before .before .carry-on in

@@ -5,35 +5,27 @@ use Rattle.lxt_record.proofs.RecordLaws.{start-in}
 use Rattle.lxt_record.proofs.start_within.Statement.{statement}
 use Rattle.lxt_record.proofs.start_within.Tie as tie
 
--- src/lib.rt:60:41
 slice-relend-prefix-start : tie.Need-slice-relend-prefix-start
 slice-relend-prefix-start c = search needs
 
--- src/lib.rt:60:41
 slice-aggregate-start : tie.Need-slice-aggregate-start
 slice-aggregate-start c = let b = c .before .before .before .before .before in sym (length-take-le (b .args .room) (b .args .numbers .now) (b .pre .0))
 
--- src/lib.rt:60:63
 slice-relend-prefix-start-2 : tie.Need-slice-relend-prefix-start-2
 slice-relend-prefix-start-2 c = search needs
 
--- src/lib.rt:60:63
 slice-aggregate-start-2 : tie.Need-slice-aggregate-start-2
 slice-aggregate-start-2 c = let b = c .before .before .before .before .before .before in sym (length-take-le (b .args .room) (b .args .offsets .now) (b .pre .1))
 
--- src/lib.rt:60:5
 start-requires : tie.Need-start-requires
 start-requires c κs = search needs
 
--- src/lib.rt:50:1
 same-length : tie.Need-same-length
 same-length c = search needs
 
--- src/lib.rt:50:1
 same-length-2 : tie.Need-same-length-2
 same-length-2 c = search needs
 
--- src/lib.rt:50:1
 returns : tie.Need-returns
 returns c =
     let call = c .before .before .before .before .start in
