@@ -142,6 +142,17 @@ fn name_of(fault: RecordFault) -> String {
     }
 }
 
+/// Whether the first broken chain of a record is sound in its first change.
+fn broken_below(tables: &Tables, record: &[(u32, u32)]) -> bool {
+    let downwards = tables.downwards();
+    let mut parts = record
+        .iter()
+        .enumerate()
+        .map(|(root, pair)| downwards.sound_part(root, pair.1));
+    let broken = parts.find(|(_, fault)| fault.is_some());
+    broken.is_some_and(|(sound, _)| !sound.is_empty())
+}
+
 /// A file that calls are made about, and what was compared.
 struct Calls<'a> {
     file: &'a [u8],
@@ -172,9 +183,13 @@ impl<'a> Calls<'a> {
 
     fn fail(&self, call: &str, proved: &str, expected: &str) -> ! {
         let bytes = &self.file[..self.file.len().min(10_000)];
+        let first = |text: &str| text.chars().take(10_000).collect::<String>();
         panic!(
-            "{call} of {}\nproved   {proved}\nexpected {expected}\nfile {bytes:02X?}",
-            self.what
+            "{} of {}\nproved   {}\nexpected {}\nfile {bytes:02X?}",
+            first(call),
+            self.what,
+            first(proved),
+            first(expected)
         );
     }
 
@@ -282,6 +297,12 @@ impl<'a> Calls<'a> {
                         }
                         if self.judged.is_err() {
                             self.seen.meet("20 of a file that 15 to 17 refuse");
+                        }
+                        if let RecordFault::Chain(fault) = fault {
+                            if broken_below(tables, &plain(before, n)) {
+                                self.seen
+                                    .meet(format!("20 {fault:?} below the first change"));
+                            }
                         }
                         name_of(fault)
                     }
@@ -457,10 +478,8 @@ fn whole_walk(
     let (start, mut record) = calls.start(asked, n + random.below(4));
     assert_eq!(start, Ok(()), "{}", calls.what);
     let started = record.clone();
-    let numbered = plain(&record, n).into_iter().enumerate();
-    assert!(numbered
-        .map(|(at, pair)| (at, pair.0))
-        .all(|(at, number)| at == number as usize));
+    let (numbers, _) = apart(&record[AROUND..AROUND + n]);
+    assert_eq!(numbers, Vec::from_iter(0..n as u32), "{}", calls.what);
     assert_eq!(record, record_after(&started, n, list), "{}", calls.what);
     assert_eq!(
         record[AROUND + n..],
@@ -843,6 +862,16 @@ fn altered_records(file: &[u8], what: &str, seen: &mut Seen) {
     }
 }
 
+/// Fails unless chains broke each rule so many times below their first change.
+fn below_the_first_change(seen: &Seen, least: u64) {
+    for fault in Fault::ALL {
+        // A previous offset is 0 or from C on, and lower, so only a first change may start elsewhere.
+        if ![Fault::StartBelowC, Fault::StartFromT].contains(&fault) {
+            seen.least_met(&format!("20 {fault:?} below the first change"), least);
+        }
+    }
+}
+
 #[test]
 fn altered_records_of_generated_files() {
     let mut seen = Seen::default();
@@ -868,6 +897,7 @@ fn altered_records_of_generated_files() {
     seen.least("carry on", "21 pairs, before 20", 1_000);
     seen.least_met("20 before the output's 21", 1_000);
     seen.least_met("20 of a file that 15 to 17 refuse", 1_000);
+    below_the_first_change(&seen, 5);
     seen.least_met("equal offsets handed out", 1_000);
     seen.least_met("walk on off the root's own chain", 1_000);
     for number in 15..=17 {
@@ -926,6 +956,7 @@ fn every_pending_offset_of_small_files() {
     for fault in Fault::ALL {
         seen.least("carry on", &name_of(RecordFault::Chain(fault)), 200);
     }
+    below_the_first_change(&seen, 20);
     seen.least("carry on", "20 PendingOfAlias", 1_000);
     seen.least("carry on", "done false", 1_000);
     seen.least("carry on", "done true", 1_000);

@@ -186,14 +186,26 @@ pub struct Downwards<'a> {
 impl Downwards<'_> {
     /// The offsets of a root's chain from this one down; none for 0. Or the first fault.
     pub fn chain(&self, root: usize, from: u32) -> Result<Vec<u32>, Fault> {
+        match self.sound_part(root, from) {
+            (chain, None) => Ok(chain),
+            (_, Some(fault)) => Err(fault),
+        }
+    }
+
+    /// The offsets of a root's chain from this one down to its end or its first fault.
+    pub fn sound_part(&self, root: usize, from: u32) -> (Vec<u32>, Option<Fault>) {
         let mut chain = Vec::new();
         let mut offset = from;
         while offset != 0 {
-            let change = self.reader.read(&self.trace.facts[root], offset)?;
-            chain.push(offset);
-            offset = change.previous;
+            match self.reader.read(&self.trace.facts[root], offset) {
+                Ok(change) => {
+                    chain.push(offset);
+                    offset = change.previous;
+                }
+                Err(fault) => return (chain, Some(fault)),
+            }
         }
-        Ok(chain)
+        (chain, None)
     }
 
     /// What a record of at least n pairs is to hand out: the chain of each pending offset, all pairs by
