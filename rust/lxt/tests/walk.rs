@@ -814,7 +814,11 @@ fn altered_records(file: &[u8], what: &str, seen: &mut Seen) {
             continue;
         }
         // Fewer than n pairs is 21, also where a pair is wrong.
-        let fewer = random.below(n);
+        let fewer = match random.below(3) {
+            0 => 0,
+            1 => n - 1,
+            _ => random.below(n),
+        };
         let mut record = record_of(&pairs[..fewer], 0);
         assert_eq!(calls.carry_on(&mut record, 1, 2).0, Err(21), "{what}");
         if fewer > 0 {
@@ -873,8 +877,11 @@ fn below_the_first_change(seen: &Seen, least: u64) {
 }
 
 #[test]
-fn altered_records_of_generated_files() {
+fn records_that_no_start_wrote() {
     let mut seen = Seen::default();
+    for (name, file) in traces(8_000) {
+        altered_records(&file, &name, &mut seen);
+    }
     for (what, file) in generated(30_000..36_000, 3_000) {
         altered_records(&file, &what, &mut seen);
     }
