@@ -2,7 +2,11 @@
 //! fixed-size arrays, so that what C is handed is what the proved code was proved for: a pointer
 //! with its length, and arrays of exactly the size that is written.
 
+use crate::Pair;
+
 mod c {
+    use crate::Pair;
+
     extern "C" {
         pub fn lxt_judge(
             file: *const u8,
@@ -52,6 +56,24 @@ mod c {
             room: usize,
             time: *mut u32,
             answer: *mut u64,
+        ) -> u32;
+        pub fn lxt_start_walk(
+            file: *const u8,
+            length: usize,
+            asked: *const u8,
+            asked_length: usize,
+            pairs: *mut Pair,
+            room: usize,
+        ) -> u32;
+        pub fn lxt_carry_on(
+            file: *const u8,
+            length: usize,
+            pairs: *mut Pair,
+            pairs_length: usize,
+            size: u32,
+            output: *mut u32,
+            output_room: usize,
+            answer: *mut u32,
         ) -> u32;
     }
 }
@@ -177,9 +199,51 @@ pub(crate) fn change(
     }
 }
 
+/// The record of a walk in the lent pairs; 0 or the refusal's number.
+pub(crate) fn start_walk(file: &[u8], asked: &[u8], pairs: &mut [Pair]) -> u32 {
+    // SAFETY: the pointers and lengths of the three slices are their own, a pair has the layout of
+    // C's, and the `&mut` is not aliased.
+    unsafe {
+        c::lxt_start_walk(
+            file.as_ptr(),
+            file.len(),
+            asked.as_ptr(),
+            asked.len(),
+            pairs.as_mut_ptr(),
+            pairs.len(),
+        )
+    }
+}
+
+/// The next pairs of a walk in the lent output, how many they are, and 1 where the walk is done; 0 or
+/// the refusal's number.
+pub(crate) fn carry_on(
+    file: &[u8],
+    pairs: &mut [Pair],
+    size: u32,
+    output: &mut [u32],
+    answer: &mut [u32; 2],
+) -> u32 {
+    // SAFETY: the pointers and lengths of the three slices are their own, a pair has the layout of
+    // C's, the array has the two numbers that are written, and the three `&mut` are not aliased.
+    unsafe {
+        c::lxt_carry_on(
+            file.as_ptr(),
+            file.len(),
+            pairs.as_mut_ptr(),
+            pairs.len(),
+            size,
+            output.as_mut_ptr(),
+            output.len(),
+            answer.as_mut_ptr(),
+        )
+    }
+}
+
 #[cfg(test)]
 mod tests {
     use super::judge;
+    use crate::Pair;
     use lxt_reference::{Judged, Value};
 
     const MARKED: [u32; 4] = [0xAAAA_AAAA; 4];
@@ -311,6 +375,64 @@ mod tests {
             let expected = expected.map(|(time, value)| (time, numbers(value)));
             assert_eq!((number, (time, answer)), after(expected, MARKS));
             assert_eq!(bits, expected_bits);
+        });
+    }
+
+    /// The lent pairs as the independent reader takes them: numbers and offsets.
+    fn apart(pairs: &[Pair]) -> (Vec<u32>, Vec<u32>) {
+        let both = pairs.iter().map(|pair| (pair.number, pair.offset));
+        both.unzip()
+    }
+
+    #[test]
+    fn a_pair_is_two_numbers() {
+        assert_eq!(std::mem::size_of::<Pair>(), 8);
+        assert_eq!(std::mem::align_of::<Pair>(), 4);
+        assert_eq!(std::mem::offset_of!(Pair, number), 0);
+        assert_eq!(std::mem::offset_of!(Pair, offset), 4);
+    }
+
+    #[test]
+    fn a_walk_is_written_or_stays() {
+        const MARKS: [u32; 2] = [0xAAAA_AAAA; 2];
+        let mark = Pair {
+            number: 0xAAAA_AAAA,
+            offset: 0xBBBB_BBBB,
+        };
+        questions(|file, judged, facility, offset, room| {
+            if offset != u32::MAX {
+                return;
+            }
+            let n = judged.as_ref().map_or(3, |it| it.summary().facilities) as usize;
+            let mut asked = vec![0; n];
+            if let Some(asked) = asked.get_mut(facility as usize) {
+                *asked = 1;
+            }
+            let mut pairs = vec![mark; n + 2];
+            let (mut numbers, mut offsets) = apart(&pairs);
+            let number = super::start_walk(file, &asked, &mut pairs);
+            let expected = lxt_reference::start_walk(file, &asked, &mut numbers, &mut offsets);
+            assert_eq!(number, after(expected, ()).0);
+            assert_eq!(apart(&pairs), (numbers.clone(), offsets.clone()));
+
+            // The record that was started, or the marks where the file was refused.
+            for size in [1, 17, u32::MAX] {
+                let mut output = vec![MARKS[0]; room];
+                let mut expected_output = output.clone();
+                let mut answer = MARKS;
+                let number = super::carry_on(file, &mut pairs, size, &mut output, &mut answer);
+                let expected = lxt_reference::carry_on(
+                    file,
+                    &mut numbers,
+                    &mut offsets,
+                    &mut expected_output,
+                    size.into(),
+                );
+                let expected = expected.map(|(count, done)| [count, done.into()]);
+                assert_eq!((number, answer), after(expected, MARKS));
+                assert_eq!(output, expected_output);
+                assert_eq!(apart(&pairs), (numbers.clone(), offsets.clone()));
+            }
         });
     }
 }

@@ -6,6 +6,29 @@
 //! assert_eq!(summary.facilities, 1);
 //! # Ok::<(), lxt::Refusal>(())
 //! ```
+//!
+//! All changes of a trace, the newest first, in batches of 64:
+//!
+//! ```
+//! let file: &[u8] = include_bytes!("../../../traces/gpsim_blink.lxt");
+//! let n = lxt::judge(file)?.facilities as usize;
+//! let mut pairs = vec![lxt::Pair::default(); n];
+//! lxt::start_walk(file, &vec![1; n], &mut pairs)?;
+//! let mut output = [0; 2 * 64];
+//! let mut changes = 0;
+//! loop {
+//!     let (count, done) = lxt::carry_on(file, &mut pairs, 64, &mut output)?;
+//!     for change in output[..2 * count as usize].chunks(2) {
+//!         println!("facility {} changes at offset {}", change[0], change[1]);
+//!     }
+//!     changes += count;
+//!     if done {
+//!         break;
+//!     }
+//! }
+//! assert_eq!(changes, 298);
+//! # Ok::<(), lxt::Refusal>(())
+//! ```
 
 mod ffi;
 
@@ -76,6 +99,16 @@ impl Value {
     }
 }
 
+/// One pair of a walk's record, laid out as in C.
+#[repr(C)]
+#[derive(Clone, Copy, Debug, Default, PartialEq, Eq)]
+pub struct Pair {
+    /// The facility's number, which is the pair's place.
+    pub number: u32,
+    /// The offset of the facility's next change to be handed out, or 0.
+    pub offset: u32,
+}
+
 /// A refused call: the number of the first rule that the file or the question breaks.
 #[derive(Clone, Copy, Debug, PartialEq, Eq)]
 pub struct Refusal(u8);
@@ -123,7 +156,8 @@ fn accepted(number: u32) -> Result<(), Refusal> {
 
 /// The facts of a facility; an alias answers its root's.
 ///
-/// This and every other question judges the file first, so that it may be asked of any bytes.
+/// This and every other question judges the file first, so that it may be asked of any bytes; only
+/// [`carry_on`] judges less of it.
 pub fn facts(file: &[u8], facility: u32) -> Result<Facts, Refusal> {
     let mut answer = [0; 2];
     let (mut msb, mut lsb) = (0, 0);
@@ -194,4 +228,30 @@ pub fn value_at(file: &[u8], facility: u32, time: u32, bits: &mut [u8]) -> Resul
     let mut answer = [0; 3];
     accepted(ffi::value_at(file, facility, time, bits, &mut answer))?;
     Ok(Value::of_numbers(answer))
+}
+
+/// Starts a walk over the changes of the facilities whose asked byte is not 0; an alias asks for its
+/// root, and a root is walked once, under its own number.
+///
+/// Needs one asked byte and one pair for each facility. The pairs become the record of the walk;
+/// pairs after them stay.
+pub fn start_walk(file: &[u8], asked: &[u8], pairs: &mut [Pair]) -> Result<(), Refusal> {
+    accepted(ffi::start_walk(file, asked, pairs))
+}
+
+/// Carries on with a walk: hands out the next changes, at most `size` of them, by falling offset, and
+/// moves the record behind them. Answers how many were handed out and whether the walk is done.
+///
+/// Each is two numbers at the start of the output, the root's number and the change's offset; numbers
+/// after them stay. Needs room for `size` of them. The file is judged by its tables alone (1 to 14), and
+/// of its changes those that the record leads to, which gives 20.
+pub fn carry_on(
+    file: &[u8],
+    pairs: &mut [Pair],
+    size: u32,
+    output: &mut [u32],
+) -> Result<(u32, bool), Refusal> {
+    let mut answer = [0; 2];
+    accepted(ffi::carry_on(file, pairs, size, output, &mut answer))?;
+    Ok((answer[0], answer[1] != 0))
 }

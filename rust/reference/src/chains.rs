@@ -17,6 +17,43 @@ pub(crate) struct Change {
     pub previous: u32,
 }
 
+/// The rule that a change breaks, in the order of the tests.
+#[derive(Clone, Copy, Debug, PartialEq, Eq, PartialOrd, Ord)]
+pub enum Fault {
+    StartBelowC,
+    StartFromT,
+    HighBits,
+    Command,
+    PassesT,
+    UnusedBits,
+    CodeAbove8,
+    PreviousBelow0,
+    PreviousBelowC,
+}
+
+impl Fault {
+    /// Every rule.
+    pub const ALL: [Fault; 9] = [
+        Fault::StartBelowC,
+        Fault::StartFromT,
+        Fault::HighBits,
+        Fault::Command,
+        Fault::PassesT,
+        Fault::UnusedBits,
+        Fault::CodeAbove8,
+        Fault::PreviousBelow0,
+        Fault::PreviousBelowC,
+    ];
+
+    /// 15 or 16.
+    pub fn number(self) -> u8 {
+        match self {
+            Fault::HighBits | Fault::Command | Fault::UnusedBits | Fault::CodeAbove8 => 16,
+            _ => 15,
+        }
+    }
+}
+
 /// Where the previous change would be, as a plain number: offset - delta - 2.
 pub fn previous_offset(offset: u32, delta: u32) -> i64 {
     i64::from(offset) - i64::from(delta) - 2
@@ -76,13 +113,16 @@ impl<'a> ChangeReader<'a> {
     /// The change at `offset`, read with a root's facts. The tests stand in the paper's order: start
     /// (15), command byte (16), whole change before T (15), data (16), previous offset (15).
     #[inline(always)]
-    pub fn read(&self, facts: &Facts, offset: u32) -> Result<Change, u8> {
+    pub fn read(&self, facts: &Facts, offset: u32) -> Result<Change, Fault> {
         let file = self.trace.file;
         let end = self.trace.end;
         let at = offset as usize;
 
-        if at < self.trace.changes || at >= end {
-            return Err(15);
+        if at < self.trace.changes {
+            return Err(Fault::StartBelowC);
+        }
+        if at >= end {
+            return Err(Fault::StartFromT);
         }
 
         let command_byte = file[at];
@@ -92,8 +132,11 @@ impl<'a> ChangeReader<'a> {
             Kind::Integer => matches!(command, 0 | 3 | 4),
             Kind::Real | Kind::Text => true,
         };
-        if command_byte & 0xC0 != 0 || !allowed {
-            return Err(16);
+        if command_byte & 0xC0 != 0 {
+            return Err(Fault::HighBits);
+        }
+        if !allowed {
+            return Err(Fault::Command);
         }
 
         let delta_bytes = usize::from(command_byte >> 4) + 1;
@@ -105,27 +148,27 @@ impl<'a> ChangeReader<'a> {
             Kind::Real => data + 8,
             Kind::Text => match self.next_zero.get(data) {
                 Some(zero) if (*zero as usize) < end => *zero as usize + 1,
-                _ => return Err(15),
+                _ => return Err(Fault::PassesT),
             },
         };
         if change_end > end {
-            return Err(15);
+            return Err(Fault::PassesT);
         }
 
         if matches!(facts.kind, Kind::Bits | Kind::Integer) && symbol > 0 {
             // Unused bits are 0.
             let used_in_last = used_bits % 8;
             if used_in_last != 0 && file[change_end - 1] & (0xFF >> used_in_last) != 0 {
-                return Err(16);
+                return Err(Fault::UnusedBits);
             }
             if symbol == 4 {
                 // Codes 0 to 8; of an odd width the last nibble is padding, no code.
                 let whole = facts.width as usize / 2;
                 if self.wrong_codes[data + whole] != self.wrong_codes[data] {
-                    return Err(16);
+                    return Err(Fault::CodeAbove8);
                 }
                 if used_in_last != 0 && file[change_end - 1] >> 4 > 8 {
-                    return Err(16);
+                    return Err(Fault::CodeAbove8);
                 }
             }
         }
@@ -135,8 +178,11 @@ impl<'a> ChangeReader<'a> {
             delta = delta << 8 | u32::from(*byte);
         }
         let previous = previous_offset(offset, delta);
-        if previous < 0 || (previous >= 1 && previous < self.trace.changes as i64) {
-            return Err(15);
+        if previous < 0 {
+            return Err(Fault::PreviousBelow0);
+        }
+        if previous >= 1 && previous < self.trace.changes as i64 {
+            return Err(Fault::PreviousBelowC);
         }
 
         Ok(Change {
@@ -178,14 +224,14 @@ impl<'a> ChainFollower<'a> {
         }
     }
 
-    /// Follows the chain from `start` down and shows each change that isn't known yet. Answers 15 or
-    /// 16 for the first fault, else whether the chain met a change where another had passed.
+    /// Follows the chain from `start` down and shows each change that isn't known yet. Answers the first
+    /// fault, else whether the chain met a change where another had passed.
     pub fn follow(
         &mut self,
         facts: &Facts,
         start: u32,
         mut show: impl FnMut(&Change),
-    ) -> Result<bool, u8> {
+    ) -> Result<bool, Fault> {
         let form = form(facts);
         let mut met = false;
         let mut offset = start;
@@ -216,12 +262,13 @@ pub(crate) fn read_chains(trace: &Trace) -> Result<Chains, u8> {
         if !trace.is_root(root) {
             continue;
         }
-        met |= follower.follow(&trace.facts[root], trace.sync[root], |change| {
+        let followed = follower.follow(&trace.facts[root], trace.sync[root], |change| {
             // Once two roots reach one offset the file is refused, and the chains aren't needed.
             if !met {
                 chain.push(*change);
             }
-        })?;
+        });
+        met |= followed.map_err(Fault::number)?;
     }
     if met {
         return Err(17);

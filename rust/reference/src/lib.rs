@@ -15,12 +15,12 @@ mod walk;
 #[cfg(test)]
 mod tests;
 
-pub use chains::previous_offset;
+pub use chains::{previous_offset, Fault};
 pub use dump::dump;
 pub use questions::{
     chains, change, change_before, facts, judge, name, root, spans, value_at, Judged,
 };
-pub use walk::{carry_on, full_list, start_walk};
+pub use walk::{carry_on, full_list, start_walk, Downwards, RecordFault, Tables};
 
 /// The limits of a file's length, in bytes.
 pub const SHORTEST_FILE: usize = 6;

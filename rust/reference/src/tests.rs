@@ -1586,6 +1586,39 @@ fn carrying_on_checks_the_record() {
 }
 
 #[test]
+fn what_a_record_leads_to() {
+    let file = four_facilities().file();
+    let tables = Tables::new(&file).expect("tables");
+    assert_eq!((tables.facilities(), tables.changes()), (4, 4));
+    let downwards = tables.downwards();
+    let rest = |offsets: [u32; 4]| {
+        let record = [0, 1, 2, 3].map(|it| (it, offsets[it as usize]));
+        downwards.rest(&record)
+    };
+    assert_eq!(rest([0; 4]), Ok(vec![]));
+    assert_eq!(rest([0, 6, 0, 8]), Ok(vec![(3, 8), (1, 6), (3, 4)]));
+    assert_eq!(rest([0, 8, 0, 8]), Ok(vec![(1, 8), (3, 8), (1, 4), (3, 4)]));
+    assert_eq!(rest([0, 0, 6, 0]), Err(RecordFault::PendingOfAlias));
+    let broken = |offset| rest([0, offset, 0, 0]);
+    let end = tables.end();
+    assert_eq!(broken(3), Err(RecordFault::Chain(Fault::StartBelowC)));
+    assert_eq!(broken(end), Err(RecordFault::Chain(Fault::StartFromT)));
+    // At 5 stand 02 04 04: two symbols of 4 bits, and the previous offset -1.
+    assert_eq!(broken(5), Err(RecordFault::Chain(Fault::PreviousBelow0)));
+    let swapped = [(1, 0), (0, 0), (2, 0), (3, 0)];
+    assert_eq!(downwards.rest(&swapped), Err(RecordFault::WrongNumber));
+    // Of a chain that breaks further down, what is above.
+    assert_eq!(downwards.sound_part(3, 8), (vec![8, 4], None));
+    let mut made = four_facilities();
+    made.changes[0] = 0x43;
+    let file = made.file();
+    let tables = Tables::new(&file).expect("tables");
+    let downwards = tables.downwards();
+    assert_eq!(downwards.chain(3, 8), Err(Fault::HighBits));
+    assert_eq!(downwards.sound_part(3, 8), (vec![8], Some(Fault::HighBits)));
+}
+
+#[test]
 fn of_equal_offsets_the_lowest_facility_goes_first() {
     // Carrying on over a file that 17 refuses is legal.
     let mut made = four_facilities();
