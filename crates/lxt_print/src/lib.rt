@@ -1,0 +1,3 @@
+// The lines of a printed trace.
+pub mod lines;
+pub mod text;
