@@ -1,20 +1,43 @@
 -- Text that is put into a buffer, and what putting a line asks.
 use Prim.Native.Nat.{ℕ, _+_, _*_, _≤_, _<_}
 use mathlib.Core.Path.{_≡_}
-use mathlib.Core.List.{List, _++_}
+use mathlib.Core.List.{List, [], _∷_, _++_}
 use lib.ListN.{length, take, drop}
-use Rattle.lxt_format.specs.Names.{nameOf}
+use Rattle.lxt_format.specs.Basics.{if_then_else_}
+use Rattle.lxt_format.specs.Geometry.{isAlias, rootOf, ownFacts}
+use Rattle.lxt_format.specs.Times.{timeOf}
 use Rattle.lxt_format.specs.Judge.{fileRefusal}
 use Rattle.lxt_tables.specs.Stage.{tablesOf}
 use Rattle.lxt_tables.specs.declared.Tables.{Tables}
-use Rattle.lxt_chains.specs.Pending.{pairOf}
-use Rattle.lxt_chains.specs.Accepted.{Allowed}
+use Rattle.lxt_print.specs.Lines.{decimal, space, facilityWord, changeWord, aliasWord, kindWord}
 
 -- a buffer that holds a text from `at` on
 abbrev pub placed : List ℕ → ℕ → List ℕ → List ℕ
 placed buffer at text = take at buffer ++ (text ++ drop (at + length text) buffer)
 
+-- a text that was put from `at` up to p: the buffer before, the text, and the buffer after
+pub record Put (before : List ℕ) (at : ℕ) (text : List ℕ) (p : ℕ) (after : List ℕ) : Type 0 where
+  pub place : p ≡ at + length text
+  pub holds : after ≡ placed before at text
+  pub fits : p ≤ length before
+
 -- the tables of an accepted file
 pub record Opened (s : List ℕ) (t : Tables) : Type 0 where
   pub tables : t ≡ tablesOf s
   pub accepted : fileRefusal s ≡ 0
+
+-- ---- parts of lines
+
+-- "facility 0 a ": up to the kind
+unfoldable pub facilityHead : ℕ → List ℕ → List ℕ
+facilityHead f name = facilityWord ++ space ++ decimal f ++ space ++ name ++ space
+
+-- "bits 1", "alias 0": the kind and the width, or the root
+unfoldable pub facilityEnd : List ℕ → ℕ → List ℕ
+facilityEnd s f =
+    if isAlias s f then aliasWord ++ space ++ decimal (rootOf s f)
+    else kindWord (ownFacts s f .kind) ++ space ++ decimal (ownFacts s f .width)
+
+-- "change 0 6 5 ": up to the value
+unfoldable pub changeHead : List ℕ → ℕ → ℕ → List ℕ
+changeHead s f o = changeWord ++ space ++ decimal f ++ space ++ decimal o ++ space ++ decimal (timeOf s o) ++ space

@@ -1,21 +1,15 @@
 // The lines of a printed trace, each put at the start of a lent buffer.
 ghost use mathlib.Core.Path.{_≡_};
 ghost use Prim.Native.Nat.{_+_, _*_, _≤_, _<_};
+ghost use mathlib.Core.List.{_++_};
 ghost use lib.ListN.{length};
 ghost use Rattle.lxt_format.specs.Columns.{onto};
 ghost use Rattle.lxt_format.specs.Names.{nameOf};
-ghost use Rattle.lxt_format.specs.Times.{timeOf};
-ghost use Rattle.lxt_format.specs.Values.{contentOf};
-ghost use Rattle.lxt_chains.specs.Accepted.{Allowed};
-ghost use Rattle.lxt_print.specs.Lines.{facilityLine, changeLine, doneLine, refusedLine, kindWord, valueText};
-ghost use Rattle.lxt_print.specs.Placing.{placed, Opened};
-use crate::text::bytes_of;
+ghost use Rattle.lxt_print.specs.Lines.{decimal, space, facilityLine, doneLine, refusedLine, kindWord};
+ghost use Rattle.lxt_print.specs.Placing.{Opened, Put, facilityHead, facilityEnd};
 use crate::text::put_bytes;
 use crate::text::put_decimal;
-use crate::text::put_hex;
 use lxt_format::Kind;
-use lxt_format::Value;
-use lxt_reader::values;
 use lxt_tables::Tables;
 use lxt_tables::aliases;
 use lxt_tables::geometry;
@@ -40,9 +34,18 @@ pub fn done(count: u32, out: &mut [u8]) -> usize
     put_bytes(out, q, &[b'\n'])
 }
 
+// A number and a space.
+fn put_number(out: &mut [u8], at: usize, n: u32) -> usize
+    requires { ⌜ at + 11 ≤ length (now out) ⌝ }
+    ensures { λ r. ⌜ Put (now (out .entry)) at (decimal n ++ space) r (now (out .exit)) × (r ≤ at + 11) ⌝ }
+{
+    let p = put_decimal(out, at, n);
+    put_bytes(out, p, &[b' '])
+}
+
 fn put_kind(out: &mut [u8], at: usize, kind: Kind) -> usize
     requires { ⌜ at + 7 ≤ length (now out) ⌝ }
-    ensures { λ r. ⌜ (r ≡ at + length (kindWord kind)) × (now (out .exit) ≡ placed (now (out .entry)) at (kindWord kind)) ⌝ }
+    ensures { λ r. ⌜ Put (now (out .entry)) at (kindWord kind) r (now (out .exit)) × (r ≤ at + 7) ⌝ }
 {
     match kind {
         Kind::Bits => put_bytes(out, at, &[b'b', b'i', b't', b's']),
@@ -52,31 +55,45 @@ fn put_kind(out: &mut [u8], at: usize, kind: Kind) -> usize
     }
 }
 
+// A facility's number and name.
+fn put_facility(f: u32, name: &[u8], out: &mut [u8]) -> usize
+    requires { ⌜ length (now name) + 21 ≤ length (now out) ⌝ }
+    ensures { λ r. ⌜ Put (now (out .entry)) 0 (facilityHead f (now (name .entry))) r (now (out .exit)) × (r ≤ length (now (name .entry)) + 21) ⌝ }
+{
+    let p = put_bytes(
+        out,
+        0,
+        &[b'f', b'a', b'c', b'i', b'l', b'i', b't', b'y', b' '],
+    );
+    let q = put_number(out, p, f);
+    let r = put_bytes(out, q, name);
+    put_bytes(out, r, &[b' '])
+}
+
+// A facility's kind and width; of an alias "alias" and its root's number.
+fn put_shape(file: &[u8], t: Tables, f: u32, out: &mut [u8], at: usize) -> usize
+    requires { ⌜ Opened (now file) t × ((f < t .facilities) × (at + 18 ≤ length (now out))) ⌝ }
+    ensures { λ r. ⌜ Put (now (out .entry)) at (facilityEnd (now (file .entry)) f) r (now (out .exit)) × (r ≤ at + 18) ⌝ }
+{
+    let geometry = t.geometry as usize;
+    let n = t.facilities;
+    if geometry::is_alias(file, geometry, n, f) {
+        let p = put_bytes(out, at, &[b'a', b'l', b'i', b'a', b's', b' ']);
+        return put_decimal(out, p, aliases::root(file, geometry, n, f));
+    }
+    let facts = geometry::own_facts(file, geometry, n, f);
+    let kind = facts.kind;
+    let q = put_kind(out, at, kind);
+    let r = put_bytes(out, q, &[b' ']);
+    put_decimal(out, r, facts.width)
+}
+
 // A facility: its number, name, kind and width; of an alias "alias" and its root's number.
 pub fn facility(file: &[u8], t: Tables, f: u32, name: &[u8], out: &mut [u8]) -> usize
     requires { ⌜ Opened (now file) t × ((f < t .facilities) × ((now name ≡ nameOf (now file) f) × (1100 ≤ length (now out)))) ⌝ }
     ensures { λ r. ⌜ (r ≡ length (facilityLine (now (file .entry)) f)) × (now (out .exit) ≡ onto (facilityLine (now (file .entry)) f) (now (out .entry))) ⌝ }
 {
-    let geometry = t.geometry as usize;
-    let n = t.facilities;
-    let mut p = put_bytes(
-        out,
-        0,
-        &[b'f', b'a', b'c', b'i', b'l', b'i', b't', b'y', b' '],
-    );
-    p = put_decimal(out, p, f);
-    p = put_bytes(out, p, &[b' ']);
-    p = put_bytes(out, p, name);
-    p = put_bytes(out, p, &[b' ']);
-    if geometry::is_alias(file, geometry, n, f) {
-        p = put_bytes(out, p, &[b'a', b'l', b'i', b'a', b's', b' ']);
-        p = put_decimal(out, p, aliases::root(file, geometry, n, f));
-    } else {
-        let facts = geometry::own_facts(file, geometry, n, f);
-        let kind = facts.kind;
-        p = put_kind(out, p, kind);
-        p = put_bytes(out, p, &[b' ']);
-        p = put_decimal(out, p, facts.width);
-    }
-    put_bytes(out, p, &[b'\n'])
+    let p = put_facility(f, name, out);
+    let q = put_shape(file, t, f, out, p);
+    put_bytes(out, q, &[b'\n'])
 }

@@ -4,12 +4,12 @@ ghost use Prim.Native.Nat.{_+_, _*_, _≤_, _<_};
 ghost use lib.ListN.{length};
 ghost use Rattle.lxt_format.specs.Changes.{digits};
 ghost use Rattle.lxt_print.specs.Lines.{decimal, hexDigit, hexBytes};
-ghost use Rattle.lxt_print.specs.Placing.{placed};
+ghost use Rattle.lxt_print.specs.Placing.{Put};
 
 // Bytes as they are.
 pub fn put_bytes(out: &mut [u8], at: usize, bytes: &[u8]) -> usize
     requires { ⌜ at + length (now bytes) ≤ length (now out) ⌝ }
-    ensures { λ r. ⌜ (r ≡ at + length (now (bytes .entry))) × (now (out .exit) ≡ placed (now (out .entry)) at (now (bytes .entry))) ⌝ }
+    ensures { λ r. ⌜ Put (now (out .entry)) at (now (bytes .entry)) r (now (out .exit)) ⌝ }
 {
     let mut i = 0;
     while i < bytes.len() {
@@ -35,7 +35,7 @@ fn places(n: u32) -> usize
 // A number in decimal. Its digits are stored from the last to the first.
 pub fn put_decimal(out: &mut [u8], at: usize, n: u32) -> usize
     requires { ⌜ at + 10 ≤ length (now out) ⌝ }
-    ensures { λ r. ⌜ (r ≡ at + length (decimal n)) × (now (out .exit) ≡ placed (now (out .entry)) at (decimal n)) ⌝ }
+    ensures { λ r. ⌜ Put (now (out .entry)) at (decimal n) r (now (out .exit)) × (r ≤ at + 10) ⌝ }
 {
     let end = at + places(n);
     let mut i = end;
@@ -58,7 +58,7 @@ fn hex_digit(d: u8) -> u8
 // Bytes in hexadecimal, two digits each.
 pub fn put_hex(out: &mut [u8], at: usize, bytes: &[u8]) -> usize
     requires { ⌜ at + 2 * length (now bytes) ≤ length (now out) ⌝ }
-    ensures { λ r. ⌜ (r ≡ at + 2 * length (now (bytes .entry))) × (now (out .exit) ≡ placed (now (out .entry)) at (hexBytes (now (bytes .entry)))) ⌝ }
+    ensures { λ r. ⌜ Put (now (out .entry)) at (hexBytes (now (bytes .entry))) r (now (out .exit)) × (r ≡ at + 2 * length (now (bytes .entry))) ⌝ }
 {
     let mut i = 0;
     let mut p = at;

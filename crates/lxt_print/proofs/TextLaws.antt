@@ -1,0 +1,349 @@
+-- Laws of text that is put into a buffer, and of numbers as text.
+use Prim.Native.Nat.{ℕ, zero, suc, _+_, _*_, _-_, _/_, _%_, _≤_, _<_}
+use native.Mathlib.Nat.{add-zero, zero-add}
+use native.Mathlib.Omega.{arith}
+use native.Mathlib.Decide.{decLe, ℕ-discrete}
+use mathlib.Core.Path.{_≡_, refl, sym, ap, _∙_}
+use mathlib.Core.Bool.{Bool, true, false}
+use mathlib.Core.List.{List, [], _∷_, _++_, append-assoc, append-nil}
+use lib.ListN.{length, getD, set, take, drop, length-append, length-take, length-drop, length-set, take-append-drop}
+use lib.Seq.{length-take-le, take-all, take-suc, take-at, drop-at, set-at, drop-cons, drop-drop, append-snoc, take-set-le, drop-set-lt}
+use lib.Dec.{ltb, eqb}
+use borrow.Author.Tests.{lt-ltb, le-ltb, eq-eqb, ne-eqb}
+use Rattle.lxt_format.specs.Basics.{if_then_else_, joined}
+use Rattle.lxt_format.specs.Changes.{digits}
+use Rattle.lxt_format.specs.Columns.{onto}
+use Rattle.lxt_print.specs.Lines.{decimalWithin, decimal, hexDigit, hexByte, hexBytes}
+use Rattle.lxt_print.specs.Placing.{placed, Put}
+
+-- ---- text in a buffer
+
+-- what stands up to the end of the text
+head-long : (b : List ℕ) (at : ℕ) (t : List ℕ) → at + length t ≤ length b → length (take at b ++ t) ≡ at + length t
+head-long b at t h = length-append (take at b) t ∙ ap (λ k. k + length t) (length-take-le at b (omega arith))
+
+placed-split : (b : List ℕ) (at : ℕ) (t : List ℕ) → placed b at t ≡ (take at b ++ t) ++ drop (at + length t) b
+placed-split b at t = sym (append-assoc (take at b) t (drop (at + length t) b))
+
+-- a buffer keeps its length
+pub length-placed : (b : List ℕ) (at : ℕ) (t : List ℕ) → at + length t ≤ length b → length (placed b at t) ≡ length b
+length-placed b at t h =
+    let e : length (placed b at t) ≡ length (take at b ++ t) + length (drop (at + length t) b) =
+    rw (placed-split b at t) (length-append (take at b ++ t) (drop (at + length t) b)) in
+    let f = head-long b at t h in
+    let g = length-drop (at + length t) b in
+    omega arith
+
+-- no text changes nothing
+pub placed-none : (b : List ℕ) (at : ℕ) → placed b at [] ≡ b
+placed-none b at = ap (λ k. take at b ++ drop k b) (add-zero at) ∙ take-append-drop at b
+
+-- text at the start
+pub placed-start : (b t : List ℕ) → placed b 0 t ≡ onto t b
+placed-start b t = ap (λ k. t ++ drop k b) (zero-add (length t))
+
+-- text after text
+pub placed-more : (b : List ℕ) (at : ℕ) (t u : List ℕ) → at + length t ≤ length b → placed (placed b at t) (at + length t) u ≡ placed b at (t ++ u)
+placed-more b at t u h =
+    let k : ℕ = at + length t in
+    let long : length (take at b ++ t) ≡ k = head-long b at t h in
+    let front : take k (placed b at t) ≡ take at b ++ t = rw (placed-split b at t) (take-at (take at b ++ t) (drop k b) k long) in
+    let e = length-append t u in
+    let sum : k + length u ≡ at + length (t ++ u) = omega arith in
+    let back : drop (k + length u) (placed b at t) ≡ drop (at + length (t ++ u)) b =
+    sym (drop-drop (length u) k (placed b at t))
+    ∙ ap (λ l. drop (length u) l) (rw (placed-split b at t) (drop-at (take at b ++ t) (drop k b) k long))
+    ∙ drop-drop (length u) k b
+    ∙ ap (λ n. drop n b) sum in
+    ap (λ l. l ++ (u ++ drop (k + length u) (placed b at t))) front
+    ∙ ap (λ l. (take at b ++ t) ++ (u ++ l)) back
+    ∙ append-assoc (take at b) t (u ++ drop (at + length (t ++ u)) b)
+    ∙ ap (λ l. take at b ++ l) (sym (append-assoc t u (drop (at + length (t ++ u)) b)))
+
+-- a byte stored after text
+pub placed-byte : (b : List ℕ) (at : ℕ) (t : List ℕ) (x k : ℕ) → k ≡ at + length t → k < length b → set (placed b at t) k x ≡ placed b at (t ++ (x ∷ []))
+placed-byte b at t x k ek h =
+    let g = length-append t (x ∷ []) in
+    let sum : suc k ≡ at + length (t ++ (x ∷ [])) = omega arith in
+    let p : List ℕ = take at b ++ t in
+    let long : length p ≡ k = head-long b at t (omega arith) ∙ sym ek in
+    let e : placed b at t ≡ p ++ getD b k 0 ∷ drop (suc k) b = placed-split b at t ∙ ap (λ l. p ++ l) (rw (← ek) (drop-cons b k 0 h)) in
+    ap (λ l. set l k x) e
+    ∙ set-at p (getD b k 0) (drop (suc k) b) x k long
+    ∙ append-assoc (take at b) t (x ∷ drop (suc k) b)
+    ∙ ap (λ l. take at b ++ l) (sym (append-snoc t x (drop (suc k) b)))
+    ∙ ap (λ n. take at b ++ ((t ++ (x ∷ [])) ++ drop n b)) sum
+
+-- text put before a byte that is stored already
+pub placed-before : (b : List ℕ) (at : ℕ) (t : List ℕ) (x k : ℕ) → k ≡ at + length t → k < length b → placed (set b k x) at t ≡ placed b at (t ++ (x ∷ []))
+placed-before b at t x k ek h =
+    let g = length-append t (x ∷ []) in
+    let sum : suc k ≡ at + length (t ++ (x ∷ [])) = omega arith in
+    let rest : drop (at + length t) (set b k x) ≡ x ∷ drop (suc k) b =
+    rw (← ek) (drop-cons (set b k x) k x (rw (length-set b k x) h) ∙ ap (λ l. getD (set b k x) k x ∷ l) (drop-set-lt (suc k) b k x (omega arith)) ∙ ap (λ y. y ∷ drop (suc k) b) (getD-same b k x)) in
+    ap (λ l. l ++ (t ++ drop (at + length t) (set b k x))) (take-set-le at b k x (omega arith))
+    ∙ ap (λ l. take at b ++ (t ++ l)) rest
+    ∙ ap (λ l. take at b ++ l) (sym (append-snoc t x (drop (suc k) b)))
+    ∙ ap (λ n. take at b ++ ((t ++ (x ∷ [])) ++ drop n b)) sum
+  where
+    getD-same : (l : List ℕ) (i y : ℕ) → getD (set l i y) i y ≡ y
+    getD-same [] i y = refl
+    getD-same (z ∷ l) zero y = refl
+    getD-same (z ∷ l) (suc i) y = getD-same l i y
+
+-- ---- bytes as they are
+
+pub record Copied (b : List ℕ) (at : ℕ) (bytes b′ : List ℕ) (i : ℕ) : Type 0 where
+  pub holds : b′ ≡ placed b at (take i bytes)
+  pub upto : i ≤ length bytes
+  pub room : at + length bytes ≤ length b
+  pub long : length b′ ≡ length b
+
+pub copy-begun : (b : List ℕ) (at : ℕ) (bytes : List ℕ) → at + length bytes ≤ length b → Copied b at bytes b 0
+copy-begun b at bytes h = record { holds = sym (placed-none b at); upto = omega arith; room = h; long = refl }
+
+module _ (b : List ℕ) (at : ℕ) (bytes b′ : List ℕ) (i : ℕ) (w : Copied b at bytes b′ i) where
+  pub copy-turn : i < length bytes → Copied b at bytes (set b′ (at + i) (getD bytes i 0)) (i + 1)
+  copy-turn h =
+      let l = length-take-le i bytes (w .upto) in
+      let r = w .room in
+      let next : take (i + 1) bytes ≡ take i bytes ++ (getD bytes i 0 ∷ []) = let e : i + 1 ≡ suc i = omega arith in rw e (take-suc bytes i 0 h) in
+      record {
+        holds = rw (w .holds, next) (placed-byte b at (take i bytes) (getD bytes i 0) (at + i) (omega arith) (omega arith));
+        upto = omega arith;
+        room = w .room;
+        long = length-set b′ (at + i) (getD bytes i 0) ∙ w .long;
+      }
+
+  pub copy-ended : length bytes ≤ i → Put b at bytes (at + i) b′
+  copy-ended h =
+      let u = w .upto in
+      let r = w .room in
+      record { place = omega arith; holds = w .holds ∙ rw (take-all i bytes h); fits = omega arith }
+
+-- ---- decimal digits
+
+-- the k lowest digits of a number
+unfoldable pub low : ℕ → ℕ → List ℕ
+low zero n = []
+low (suc k) n = low k (n / 10) ++ ((48 + n % 10) ∷ [])
+
+pub length-low : (k n : ℕ) → length (low k n) ≡ k
+unfolding low
+length-low zero n = refl
+length-low (suc k) n = let ih = length-low k (n / 10) in let e = length-append (low k (n / 10)) ((48 + n % 10) ∷ []) in omega arith
+
+-- the digits of a number, as many as it has
+within-low : (k n : ℕ) → decimalWithin k n ≡ low (length (decimalWithin k n)) n
+unfolding decimalWithin low
+within-low zero n = refl
+within-low (suc k) n =
+    let ih = within-low k (n / 10) in
+    let x : List ℕ = (48 + n % 10) ∷ [] in
+    elim (decLe 10 n) [
+      | yes h ↦ (let e : length (decimalWithin k (n / 10) ++ x) ≡ suc (length (decimalWithin k (n / 10))) = length-append (decimalWithin k (n / 10)) x ∙ omega arith in
+          rw (le-ltb n 10 h, e) (ap (λ l. l ++ x) ih))
+      | no h ↦ rw (lt-ltb n 10 (omega arith))
+    ]
+
+pub decimal-low : (n : ℕ) → decimal n ≡ low (length (decimal n)) n
+unfolding decimal
+decimal-low n = within-low 10 n
+
+-- how many digits a number has above its last
+unfoldable pub counted : ℕ → ℕ → ℕ
+counted j m = if eqb m 0 then 0 else length (decimalWithin j m)
+
+more-digits : (j m : ℕ) → length (decimalWithin (suc j) m) ≡ suc (counted j (m / 10))
+unfolding decimalWithin counted
+more-digits j m =
+    let x : List ℕ = (48 + m % 10) ∷ [] in
+    elim (decLe 10 m) [
+      | yes h ↦ (let n : m / 10 ≡ 0 → ⊥ = λ e. omega arith in
+          rw (le-ltb m 10 h, ne-eqb (m / 10) 0 n) (length-append (decimalWithin j (m / 10)) x ∙ omega arith))
+      | no h ↦ (let z : m / 10 ≡ 0 = omega arith in rw (lt-ltb m 10 (omega arith), eq-eqb (m / 10) 0 z))
+    ]
+
+counted-more : (j m : ℕ) → 0 < m → counted (suc j) m ≡ suc (counted j (m / 10))
+unfolding counted
+counted-more j m h = let n : m ≡ 0 → ⊥ = λ e. omega arith in rw (ne-eqb m 0 n) (more-digits j m)
+
+-- powers of ten
+unfoldable pub tens : ℕ → ℕ
+tens zero = 1
+tens (suc k) = 10 * tens k
+
+-- k digits are counted, and `rest` holds those that are left
+pub record Counting (n k rest : ℕ) : Type 0 where
+  pub same : k + counted (10 - k) rest ≡ length (decimal n)
+  pub fits : rest < tens (10 - k)
+  pub most : k ≤ 10
+
+pub count-begun : (n : ℕ) → n < 4294967296 → Counting n 1 (n / 10)
+unfolding decimal
+count-begun n h =
+    record {
+      same = let e = more-digits 9 n in omega arith;
+      fits = unfold tens in omega arith;
+      most = omega arith;
+    }
+
+module _ (n k rest : ℕ) (w : Counting n k rest) where
+  pub count-turn : 0 < rest → Counting n (k + 1) (rest / 10)
+  unfolding tens
+  count-turn h =
+      let m = w .most in
+      let f = w .fits in
+      let below : k < 10 = elim (decLe 10 k) [
+        | yes q ↦ (let z : 10 - k ≡ 0 = omega arith in let g : rest < tens 0 = rw z at f in absurd (omega arith))
+        | no q ↦ omega arith
+      ] in
+      let e : 10 - k ≡ suc (10 - (k + 1)) = omega arith in
+      let one : counted (10 - k) rest ≡ suc (counted (10 - (k + 1)) (rest / 10)) =
+      rw e (counted-more (10 - (k + 1)) rest h) in
+      let s = w .same in
+      let g : rest < tens (suc (10 - (k + 1))) = rw e at f in
+      let g2 : rest < 10 * tens (10 - (k + 1)) = g in
+      record { same = omega arith; fits = omega arith; most = omega arith }
+
+  pub count-ended : rest ≤ 0 → (k ≡ length (decimal n)) × (k ≤ 10)
+  unfolding counted
+  count-ended h =
+      let z : rest ≡ 0 = omega arith in
+      let s : k + 0 ≡ length (decimal n) = rw (z) at (w .same) in
+      (omega arith, w .most)
+
+-- digits are stored down to place i, and `rest` holds those above
+pub record Storing (b : List ℕ) (at n : ℕ) (b′ : List ℕ) (i rest : ℕ) : Type 0 where
+  pub same : placed b′ at (low (i - at) rest) ≡ placed b at (decimal n)
+  pub from : at ≤ i
+  pub room : i ≤ length b
+  pub long : length b′ ≡ length b
+
+pub store-begun : (b : List ℕ) (at n k : ℕ) → k ≡ length (decimal n) → k ≤ 10 → at + 10 ≤ length b → Storing b at n b (at + k) n
+store-begun b at n k e m h =
+    let z : at + k - at ≡ length (decimal n) = omega arith in
+    let d : low (at + k - at) n ≡ decimal n = rw z (sym (decimal-low n)) in
+    record { same = ap (λ t. placed b at t) d; from = omega arith; room = omega arith; long = refl }
+
+module _ (b : List ℕ) (at n : ℕ) (b′ : List ℕ) (i rest : ℕ) (w : Storing b at n b′ i rest) where
+  pub store-turn : at < i → Storing b at n (set b′ (i - 1) (48 + rest % 10)) (i - 1) (rest / 10)
+  unfolding low
+  store-turn h =
+      let r = w .room in
+      let l = w .long in
+      let j : ℕ = (i - 1) - at in
+      let e : i - at ≡ suc j = omega arith in
+      let long = length-low j (rest / 10) in
+      let s : placed b′ at (low (suc j) rest) ≡ placed b at (decimal n) = rw e at (w .same) in
+      record {
+        same = placed-before b′ at (low j (rest / 10)) (48 + rest % 10) (i - 1) (omega arith) (omega arith) ∙ s;
+        from = omega arith;
+        room = omega arith;
+        long = length-set b′ (i - 1) (48 + rest % 10) ∙ w .long;
+      }
+
+  pub store-ended : i ≤ at → (k : ℕ) → k ≡ length (decimal n) → at + k ≤ length b → Put b at (decimal n) (at + k) b′
+  unfolding low
+  store-ended h k ek fits =
+      let f = w .from in
+      let z : i - at ≡ 0 = omega arith in
+      let s : placed b′ at [] ≡ placed b at (decimal n) = rw z at (w .same) in
+      record { place = omega arith; holds = sym (placed-none b′ at) ∙ s; fits = fits }
+
+-- a number below 2 to the 32 has one to ten digits
+counted-most : (j m : ℕ) → counted j m ≤ j
+unfolding counted decimalWithin
+counted-most j m = elim (ℕ-discrete m 0) [
+  | yes e ↦ (rw (eq-eqb m 0 e) (omega arith))
+  | no e ↦ (rw (ne-eqb m 0 e) (within-most j m))
+]
+  where
+    within-most : (j m : ℕ) → length (decimalWithin j m) ≤ j
+    within-most zero m = omega arith
+    within-most (suc j) m =
+        let ih = within-most j (m / 10) in
+        let x : List ℕ = (48 + m % 10) ∷ [] in
+        elim (decLe 10 m) [
+          | yes h ↦ (rw (le-ltb m 10 h) (let e = length-append (decimalWithin j (m / 10)) x in omega arith))
+          | no h ↦ (rw (lt-ltb m 10 (omega arith)) (omega arith))
+        ]
+
+pub decimal-most : (n : ℕ) → length (decimal n) ≤ 10
+unfolding decimal
+decimal-most n = let e = more-digits 9 n in let h = counted-most 9 (n / 10) in omega arith
+
+-- ---- hexadecimal digits
+
+module _ (d : ℕ) where
+  pub digit-low : d < 10 → 48 + d ≡ hexDigit d
+  unfolding hexDigit
+  digit-low h = rw (lt-ltb d 10 h)
+
+  pub digit-high : 10 ≤ d → 87 + d ≡ hexDigit d
+  unfolding hexDigit
+  digit-high h = rw (le-ltb d 10 h)
+
+hex-append : (l m : List ℕ) → hexBytes (l ++ m) ≡ hexBytes l ++ hexBytes m
+unfolding hexBytes joined
+hex-append [] m = refl
+hex-append (x ∷ l) m = ap (λ r. hexByte x ++ r) (hex-append l m) ∙ sym (append-assoc (hexByte x) (hexBytes l) (hexBytes m))
+
+pub length-hex : (l : List ℕ) → length (hexBytes l) ≡ 2 * length l
+unfolding hexBytes joined hexByte
+length-hex [] = refl
+length-hex (x ∷ l) = let ih = length-hex l in omega arith
+
+hex-next : (l : List ℕ) (x : ℕ) → hexBytes (l ++ (x ∷ [])) ≡ (hexBytes l ++ (hexDigit (x / 16) ∷ [])) ++ (hexDigit (x % 16) ∷ [])
+unfolding hexBytes joined hexByte
+hex-next l x = hex-append l (x ∷ []) ∙ sym (append-assoc (hexBytes l) (hexDigit (x / 16) ∷ []) (hexDigit (x % 16) ∷ []))
+
+pub record Spelled (b : List ℕ) (at : ℕ) (bytes b′ : List ℕ) (i p : ℕ) : Type 0 where
+  pub holds : b′ ≡ placed b at (hexBytes (take i bytes))
+  pub place : p ≡ at + 2 * i
+  pub upto : i ≤ length bytes
+  pub room : at + 2 * length bytes ≤ length b
+  pub long : length b′ ≡ length b
+
+pub spell-begun : (b : List ℕ) (at : ℕ) (bytes : List ℕ) → at + 2 * length bytes ≤ length b → Spelled b at bytes b 0 at
+unfolding hexBytes joined
+spell-begun b at bytes h = record { holds = sym (placed-none b at); place = omega arith; upto = omega arith; room = h; long = refl }
+
+module _ (b : List ℕ) (at : ℕ) (bytes b′ : List ℕ) (i p : ℕ) (w : Spelled b at bytes b′ i p) where
+  pub spell-turn : i < length bytes → (x : ℕ) → x ≡ getD bytes i 0 → (u v : ℕ) → u ≡ hexDigit (x / 16) → v ≡ hexDigit (x % 16)
+      → Spelled b at bytes (set (set b′ p u) (p + 1) v) (i + 1) (p + 2)
+  spell-turn h x ex u v eu ev =
+      let l = length-take-le i bytes (w .upto) in
+      let t : List ℕ = hexBytes (take i bytes) in
+      let lt = length-hex (take i bytes) in
+      let g = length-append t (u ∷ []) in
+      let r = w .room in
+      let e = w .place in
+      let next : take (i + 1) bytes ≡ take i bytes ++ (x ∷ []) = let e : i + 1 ≡ suc i = omega arith in rw (e, ex) (take-suc bytes i 0 h) in
+      let first : set b′ p u ≡ placed b at (t ++ (u ∷ [])) = rw (w .holds) (placed-byte b at t u p (omega arith) (omega arith)) in
+      let two : (t ++ (u ∷ [])) ++ (v ∷ []) ≡ hexBytes (take (i + 1) bytes) = rw (next, eu, ev) (sym (hex-next (take i bytes) x)) in
+      record {
+        holds =
+            ap (λ q. set q (p + 1) v) first
+            ∙ placed-byte b at (t ++ (u ∷ [])) v (p + 1) (omega arith) (omega arith)
+            ∙ ap (λ q. placed b at q) two;
+        place = omega arith;
+        upto = omega arith;
+        room = w .room;
+        long = length-set (set b′ p u) (p + 1) v ∙ length-set b′ p u ∙ w .long;
+      }
+
+  pub spell-ended : length bytes ≤ i → Put b at (hexBytes bytes) p b′ × (p ≡ at + 2 * length bytes)
+  spell-ended h =
+      let u = w .upto in
+      let e = w .place in
+      let r = w .room in
+      let l = length-hex bytes in
+      (record { place = omega arith; holds = w .holds ∙ rw (take-all i bytes h); fits = omega arith }, omega arith)
+
+-- ---- the bytes of a word
+
+pub word-bytes : (x : ℕ)
+    → (x / 0x100000000000000 % 256) ∷ (x / 0x1000000000000 % 256) ∷ (x / 0x10000000000 % 256) ∷ (x / 0x100000000 % 256) ∷ (x / 0x1000000 % 256) ∷ (x / 0x10000 % 256) ∷ (x / 0x100 % 256) ∷ (x % 256) ∷ [] ≡ digits 8 8 x
+unfolding digits
+word-bytes x = let e : x % 256 ≡ x / 1 % 256 = omega arith in rw e
