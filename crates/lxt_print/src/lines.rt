@@ -5,14 +5,22 @@ ghost use mathlib.Core.List.{_++_};
 ghost use lib.ListN.{length};
 ghost use Rattle.lxt_format.specs.Columns.{onto};
 ghost use Rattle.lxt_format.specs.Names.{nameOf};
-ghost use Rattle.lxt_print.specs.Lines.{decimal, space, facilityLine, doneLine, refusedLine, kindWord};
-ghost use Rattle.lxt_print.specs.Placing.{Opened, Put, facilityHead, facilityEnd};
+ghost use Rattle.lxt_format.specs.Values.{contentOf};
+ghost use Rattle.lxt_chains.specs.Pending.{pairOf};
+ghost use Rattle.lxt_chains.specs.Accepted.{Allowed};
+ghost use Rattle.lxt_print.specs.Lines.{decimal, space, facilityLine, changeLine, doneLine, refusedLine, kindWord, valueText};
+ghost use Rattle.lxt_print.specs.Placing.{Opened, Put, facilityHead, facilityEnd, changeHead};
+use crate::text::bytes_of;
 use crate::text::put_bytes;
 use crate::text::put_decimal;
+use crate::text::put_hex;
 use lxt_format::Kind;
+use lxt_format::Value;
+use lxt_reader::values;
 use lxt_tables::Tables;
 use lxt_tables::aliases;
 use lxt_tables::geometry;
+use lxt_values::times;
 
 // "refused" and the number.
 pub fn refused(k: u8, out: &mut [u8]) -> usize
@@ -95,5 +103,59 @@ pub fn facility(file: &[u8], t: Tables, f: u32, name: &[u8], out: &mut [u8]) -> 
 {
     let p = put_facility(f, name, out);
     let q = put_shape(file, t, f, out, p);
+    put_bytes(out, q, &[b'\n'])
+}
+
+// A change's number, offset and time.
+fn put_change(file: &[u8], t: Tables, f: u32, o: u32, out: &mut [u8]) -> usize
+    requires { ⌜ Opened (now file) t × (40 ≤ length (now out)) ⌝ }
+    ensures { λ r. ⌜ Put (now (out .entry)) 0 (changeHead (now (file .entry)) f o) r (now (out .exit)) × (r ≤ 40) ⌝ }
+{
+    let time = times::time_of(file, t.times as usize, t.time_count, o as usize);
+    let p = put_bytes(out, 0, &[b'c', b'h', b'a', b'n', b'g', b'e', b' ']);
+    let q = put_number(out, p, f);
+    let r = put_number(out, q, o);
+    put_number(out, r, time)
+}
+
+// The value of a change: symbols as they are, reals and texts in hexadecimal.
+fn put_value(file: &[u8], t: Tables, f: u32, o: u32, out: &mut [u8], at: usize) -> usize
+    requires { ⌜ Opened (now file) t × ((f < t .facilities) × (Allowed (now file) (pairOf f o) × (at + (2 * length (now file) + 4096) ≤ length (now out)))) ⌝ }
+    ensures { λ r. ⌜ Put (now (out .entry)) at (valueText (now (file .entry)) (contentOf (now (file .entry)) f o)) r (now (out .exit)) × (r ≤ at + (2 * length (now (file .entry)) + 4096)) ⌝ }
+{
+    let facts = geometry::own_facts(file, t.geometry as usize, t.facilities, f);
+    let kind = facts.kind;
+    let order = t.order;
+    let value = values::read(
+        file,
+        t.end,
+        order,
+        kind,
+        facts.width,
+        o as usize,
+        &mut out[at..],
+    );
+    match value {
+        Value::Bits { width } => at + width as usize,
+        Value::Real { number: _, bits } => {
+            let word = bytes_of(bits);
+            put_hex(out, at, &word)
+        }
+        Value::Text { start, length } => {
+            let from = start as usize;
+            put_hex(out, at, &file[from..from + length as usize])
+        }
+        Value::NotDriven => at,
+        Value::Refused(_) => at,
+    }
+}
+
+// A change: its number, offset, time and value.
+pub fn change(file: &[u8], t: Tables, f: u32, o: u32, out: &mut [u8]) -> usize
+    requires { ⌜ Opened (now file) t × ((f < t .facilities) × (Allowed (now file) (pairOf f o) × (2 * length (now file) + 4200 ≤ length (now out)))) ⌝ }
+    ensures { λ r. ⌜ (r ≡ length (changeLine (now (file .entry)) (pairOf f o))) × (now (out .exit) ≡ onto (changeLine (now (file .entry)) (pairOf f o)) (now (out .entry))) ⌝ }
+{
+    let p = put_change(file, t, f, o, out);
+    let q = put_value(file, t, f, o, out, p);
     put_bytes(out, q, &[b'\n'])
 }

@@ -200,10 +200,10 @@ module _ (s : List ℕ) (r : ℕ) (below : r < facilityCount s) (plain : isAlias
   unfolding hasReal rootsOf isReal
   has-real = any-root (λ f. isReal (ownFacts s f .kind)) (λ f. not (isAlias s f)) 0 (facilityCount s) r (omega arith) (omega arith) (rw plain) (rw real-kind)
 
-  order-is : (t : Tables) → Known s t → t .order ≡ byteOrder s
+  pub order-is : (t : Tables) → Known s t → t .order ≡ byteOrder s
   order-is t k = k .order ∙ rw has-real
 
-  order-there : (t : Tables) → Known s t → Places (t .order)
+  pub order-there : (t : Tables) → Known s t → Places (t .order)
   order-there t k = rw (order-is t k) (order-places s has-real (k .passed .real-test))
 
 -- the code of the initial symbol is that of a symbol

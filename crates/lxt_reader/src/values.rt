@@ -19,7 +19,7 @@ use lxt_values::times;
 
 // The value of the change at `o` of a facility of that kind and width; its symbols go into the lent
 // buffer. `order` is the byte order of reals, T is `end`.
-fn read(
+pub fn read(
     file: &[u8],
     end: usize,
     order: [u8; 8],
