@@ -142,7 +142,7 @@ same-changes s i (o ∷ os) [] h = rw (h 0, changes-none s i) (same-changes s (s
 same-changes s i (o ∷ os) (o′ ∷ os′) h = rw (h 0, same-changes s (suc i) os os′ (λ k. h (suc k)))
 
 module _ (s : List ℕ) (m : ℕ) (nodes : List ℕ) (w : Holding (rootOffsets s) m nodes) (os : List ℕ) (e : os ≡ drop m nodes) where
-  root-changes : pendingChanges s 0 os ≡ pendingChanges s 0 (rootOffsets s)
+  pub root-changes : pendingChanges s 0 os ≡ pendingChanges s 0 (rootOffsets s)
   root-changes = rw e (same-changes s 0 (drop m nodes) (rootOffsets s) (w .leaves))
 
   pub pending-roots : (c : Chains) → Ready s c → chainsRefusal s ≡ 0 → Pending s c os

@@ -63,7 +63,7 @@ fn root_offset(file: &[u8], c: Chains, f: u32) -> u32
 }
 
 // Those of all facilities, in the leaves of a tree.
-fn put_root_offsets(file: &[u8], c: Chains, nodes: &mut [u32], m: usize)
+pub fn put_root_offsets(file: &[u8], c: Chains, nodes: &mut [u32], m: usize)
     requires { ⌜ Ready (now file) c × ((c .facilities ≤ m) × Blank m (now nodes)) ⌝ }
     ensures { λ _. ⌜ Holding (rootOffsets (now (file .entry))) m (now (nodes .exit)) ⌝ }
 {

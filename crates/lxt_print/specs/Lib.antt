@@ -1,3 +1,4 @@
 pub mod Lines
 pub mod Examples
 pub mod Placing
+pub mod Stepping

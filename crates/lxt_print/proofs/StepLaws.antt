@@ -1,0 +1,117 @@
+-- Laws of the changes one after the other.
+use Prim.Native.Nat.{ℕ, zero, suc, _+_, _*_, _≤_, _<_}
+use native.Mathlib.Omega.{arith}
+use native.Mathlib.Decide.{decLe}
+use mathlib.Core.Path.{_≡_, refl, sym, ap, _∙_}
+use mathlib.Core.Bool.{Bool, true, false}
+use mathlib.Core.List.{List, [], _∷_, _++_}
+use lib.ListN.{length, getD, set, drop, length-append}
+use lib.Seq.{getD-set-other}
+use Rattle.lxt_format.specs.Columns.{onto}
+use Rattle.lxt_format.specs.Sections.{facilityCount, endOf}
+use Rattle.lxt_format.specs.Changes.{dataAt, previousOf}
+use Rattle.lxt_format.specs.Judge.{allChanges, chainsRefusal}
+use Rattle.lxt_format.specs.JudgeLaws.{accepted}
+use Rattle.lxt_format.specs.Walk.{sort, top, high, step, offsetsAfter}
+use Rattle.lxt_tables.specs.declared.Tables.{Tables}
+use Rattle.lxt_tables.specs.Stage.{tablesOf}
+use Rattle.lxt_tables.proofs.TablesLaws.{Known, refusal-is}
+use Rattle.lxt_chains.specs.declared.chains.Chains.{Chains}
+use Rattle.lxt_chains.specs.Pending.{pairOf, pendingChanges, rootOffsets}
+use Rattle.lxt_chains.specs.Reading.{Ready, Pending}
+use Rattle.lxt_chains.specs.Tree.{Tree, Blank, Holding}
+use Rattle.lxt_chains.specs.Accepted.{Allowed}
+use Rattle.lxt_chains.specs.Bridge.{all-roots}
+use Rattle.lxt_chains.specs.Check17.{each-step}
+use Rattle.lxt_chains.proofs.ApartLaws.{allowed-inside, allowed-previous, pending-roots, root-changes}
+use Rattle.lxt_print.specs.Lines.{changeLine}
+use Rattle.lxt_print.specs.Placing.{Opened}
+use Rattle.lxt_print.specs.Stepping.{left, allLeft, Waiting, nextLine, quiet-line, quiet-after, next-line, next-after}
+use Rattle.lxt_print.proofs.LineLaws.{opened-known}
+
+-- ---- all changes are left
+
+module _ (s : List ℕ) (t : Tables) (w : Opened s t) where
+  pub chains-ask : (t ≡ tablesOf s) × (t .refusal ≡ 0)
+  chains-ask = (w .tables, refusal-is s t (w .tables) ∙ accepted s (w .accepted) .tables)
+
+  module _ (c : Chains) (r : Ready s c) where
+    facilities-are : c .facilities ≡ t .facilities
+    facilities-are = let k = opened-known s t w in r .geometry .count ∙ sym (k .facilities)
+
+    pub offsets-ask : (m : ℕ) (nodes : List ℕ) → t .facilities ≤ m → Blank m nodes → Ready s c × ((c .facilities ≤ m) × Blank m nodes)
+    offsets-ask m nodes h b = let e = facilities-are in (r, (omega arith, b))
+
+    pub started : (m : ℕ) → t .facilities ≤ m → (nodes₁ nodes₂ : List ℕ) → Holding (rootOffsets s) m nodes₁ → Tree m nodes₂ → drop m nodes₂ ≡ drop m nodes₁
+        → Waiting s t m nodes₂ × (left s m nodes₂ ≡ allLeft s)
+    started m h nodes₁ nodes₂ held tree e =
+        let p = pending-roots s m nodes₁ held (drop m nodes₂) e c r (accepted s (w .accepted) .chains) in
+        let f = facilities-are in (
+          record { tree = tree; room = h; past = λ i q. p .past i (omega arith); each = p .each },
+          ap sort (root-changes s m nodes₁ held (drop m nodes₂) e ∙ sym (all-roots s)),
+        )
+
+-- ---- one step
+
+module _ (s : List ℕ) (t : Tables) (w : Opened s t) (m : ℕ) (nodes : List ℕ) (p : Waiting s t m nodes) (f o : ℕ) (ef : f ≡ top (drop m nodes)) (eo : o ≡ high (drop m nodes)) where
+  pub none-left : o ≡ 0 → (out : List ℕ)
+      → ((0 ≡ length (nextLine s (drop m nodes))) × (out ≡ onto (nextLine s (drop m nodes)) out))
+      × (Waiting s t m nodes × (drop m nodes ≡ offsetsAfter s 1 (drop m nodes)))
+  none-left z out =
+      let h : high (drop m nodes) ≡ 0 = sym eo ∙ z in
+      ((rw (quiet-line s (drop m nodes) h), rw (quiet-line s (drop m nodes) h)), (p, sym (quiet-after s (drop m nodes) h)))
+
+  module _ (some : o ≡ 0 → ⊥) where
+    positive : 0 < high (drop m nodes)
+    positive = omega arith
+
+    pub here : Allowed s (pairOf f o)
+    here = rw (ef, eo) (each-step s (drop m nodes) positive (p .each) .0)
+
+    pub number-below : f < t .facilities
+    number-below = elim (decLe (t .facilities) f) [
+      | yes q ↦ let z = p .past (top (drop m nodes)) (rw ef at q) in absurd (omega arith)
+      | no q ↦ omega arith
+    ]
+
+    pub number-small : f < 4294967296
+    number-small = let b = number-below in let k = opened-known s t w .few in omega arith
+
+    ending : endOf s ≤ length s
+    ending = let k = opened-known s t w in omega (arith, k .end, k .end-high)
+
+    pub change-inside : (o < length s) × (dataAt s o ≤ length s)
+    change-inside = allowed-inside s ending (opened-known s t w .long) f o here
+
+    pub previous-small : (q : ℕ) → q ≡ previousOf s o → q < 4294967296
+    previous-small q eq = let a = allowed-previous s ending (opened-known s t w .long) f o here q eq in omega arith
+
+    pub put-asks : Tree m nodes × (f < m)
+    put-asks = let b = number-below in let r = p .room in (p .tree, omega arith)
+
+    pub stepped : (q : ℕ) → q ≡ previousOf s o → (nodes′ : List ℕ) → Tree m nodes′ → drop m nodes′ ≡ set (drop m nodes) f q
+        → (r : ℕ) (out out′ : List ℕ) → r ≡ length (changeLine s (pairOf f o)) → out′ ≡ onto (changeLine s (pairOf f o)) out
+        → ((r ≡ length (nextLine s (drop m nodes))) × (out′ ≡ onto (nextLine s (drop m nodes)) out))
+        × (Waiting s t m nodes′ × (drop m nodes′ ≡ offsetsAfter s 1 (drop m nodes)))
+    stepped q eq nodes′ tree en r out out′ er eb =
+        let e : drop m nodes′ ≡ step s (drop m nodes) = en ∙ (unfold step in rw (ef, eq, eo)) in
+        let line : nextLine s (drop m nodes) ≡ changeLine s (pairOf f o) = rw (ef, eo) (next-line s (drop m nodes) positive) in
+        let b = number-below in (
+          (rw line er, rw line eb),
+          (
+            record {
+              tree = tree;
+              room = p .room;
+              past = λ i k. rw en (getD-set-other (drop m nodes) f i q 0 (λ z. omega arith) ∙ p .past i k);
+              each = rw e (each-step s (drop m nodes) positive (p .each) .1);
+            },
+            e ∙ sym (next-after s (drop m nodes) positive),
+          ),
+        )
+
+-- ---- a line fits the buffer that holds it
+
+pub line-fits : (line out out′ : List ℕ) (r : ℕ) → r ≡ length line → out′ ≡ onto line out → r ≤ length out′
+line-fits line out out′ r er eo =
+    let e : length out′ ≡ length line + length (drop (length line) out) = rw eo (length-append line (drop (length line) out)) in
+    omega arith

@@ -1,0 +1,44 @@
+// The lines of all changes in walk order: each call puts one line and steps the pending offsets.
+ghost use mathlib.Core.Path.{_≡_};
+ghost use Prim.Native.Nat.{_+_, _*_, _≤_};
+ghost use lib.ListN.{length, drop};
+ghost use Rattle.lxt_format.specs.Columns.{onto};
+ghost use Rattle.lxt_format.specs.Walk.{offsetsAfter};
+ghost use Rattle.lxt_chains.specs.Tree.{Blank};
+ghost use Rattle.lxt_print.specs.Placing.{Opened};
+ghost use Rattle.lxt_print.specs.Stepping.{Waiting, left, allLeft, nextLine};
+use crate::lines;
+use lxt_chains::apart;
+use lxt_chains::tree;
+use lxt_chains::whole;
+use lxt_changes::delta;
+use lxt_tables::Tables;
+
+// All changes are left: the leaves of the tree hold where each root's chain starts.
+pub fn start(file: &[u8], t: Tables, nodes: &mut [u32], m: usize)
+    requires { ⌜ Opened (now file) t × ((t .facilities ≤ m) × Blank m (now nodes)) ⌝ }
+    ensures { λ _. ⌜ Waiting (now (file .entry)) t m (now (nodes .exit)) × (left (now (file .entry)) m (now (nodes .exit)) ≡ allLeft (now (file .entry))) ⌝ }
+{
+    let c = whole::chains_of(file, t);
+    apart::put_root_offsets(file, c, nodes, m);
+    tree::build(nodes, m);
+}
+
+// The line of the next change, put at the start of the buffer: its length. Where no change is left the
+// answer is 0, and nothing is changed.
+pub fn next(file: &[u8], t: Tables, nodes: &mut [u32], m: usize, out: &mut [u8]) -> usize
+    requires { ⌜ Opened (now file) t × (Waiting (now file) t m (now nodes) × (2 * length (now file) + 4200 ≤ length (now out))) ⌝ }
+    ensures { λ r. ⌜ (r ≡ length (nextLine (now (file .entry)) (drop m (now (nodes .entry))))) × (now (out .exit) ≡ onto (nextLine (now (file .entry)) (drop m (now (nodes .entry)))) (now (out .entry))) ⌝ }
+    ensures { λ _. ⌜ Waiting (now (file .entry)) t m (now (nodes .exit)) × (drop m (now (nodes .exit)) ≡ offsetsAfter (now (file .entry)) 1 (drop m (now (nodes .entry)))) ⌝ }
+{
+    let top = tree::highest(nodes, m);
+    let number = top.number;
+    let o = top.offset;
+    if o == 0 {
+        return 0;
+    }
+    let size = lines::change(file, t, number as u32, o, out);
+    let previous = delta::previous(file, o as usize) as u32;
+    tree::put(nodes, m, number, previous);
+    size
+}
