@@ -2,3 +2,4 @@ pub mod TextLaws
 pub mod LineLaws
 pub mod ValueLaws
 pub mod StepLaws
+pub mod NamingLaws

@@ -7,10 +7,13 @@ use mathlib.Core.Bool.{Bool, true, false}
 use mathlib.Core.List.{List, [], _∷_, _++_}
 use lib.ListN.{length, getD, set, drop, length-append}
 use lib.Seq.{getD-set-other}
+use lib.Dec.{leb}
+use borrow.Author.Tests.{leb-true}
+use Rattle.lxt_format.specs.BasicsLaws.{and-both}
 use Rattle.lxt_format.specs.Columns.{onto}
 use Rattle.lxt_format.specs.Sections.{facilityCount, endOf}
 use Rattle.lxt_format.specs.Changes.{dataAt, previousOf}
-use Rattle.lxt_format.specs.Judge.{allChanges, chainsRefusal}
+use Rattle.lxt_format.specs.Judge.{allChanges, endAt}
 use Rattle.lxt_format.specs.JudgeLaws.{accepted}
 use Rattle.lxt_format.specs.Walk.{sort, top, high, step, offsetsAfter}
 use Rattle.lxt_tables.specs.declared.Tables.{Tables}
@@ -20,9 +23,12 @@ use Rattle.lxt_chains.specs.declared.chains.Chains.{Chains}
 use Rattle.lxt_chains.specs.Pending.{pairOf, pendingChanges, rootOffsets}
 use Rattle.lxt_chains.specs.Reading.{Ready, Pending}
 use Rattle.lxt_chains.specs.Tree.{Tree, Blank, Holding}
-use Rattle.lxt_chains.specs.Accepted.{Allowed}
+use Rattle.lxt_chains.specs.Accepted.{Allowed, all-allowed, allowed-fits, apart-stacked}
 use Rattle.lxt_chains.specs.Bridge.{all-roots}
-use Rattle.lxt_chains.specs.Check17.{each-step}
+use Rattle.lxt_chains.specs.Check17.{stacked, each-step}
+use Rattle.lxt_chains.specs.Lists.{Each, each-map}
+use Rattle.lxt_chains.specs.Sorted.{each-sort}
+use Rattle.lxt_format.specs.declared.Pair.{Pair}
 use Rattle.lxt_chains.proofs.ApartLaws.{allowed-inside, allowed-previous, pending-roots, root-changes}
 use Rattle.lxt_print.specs.Lines.{changeLine}
 use Rattle.lxt_print.specs.Placing.{Opened}
@@ -115,3 +121,25 @@ pub line-fits : (line out out′ : List ℕ) (r : ℕ) → r ≡ length line →
 line-fits line out out′ r er eo =
     let e : length out′ ≡ length line + length (drop (length line) out) = rw eo (length-append line (drop (length line) out)) in
     omega arith
+
+-- ---- how many changes there are
+
+-- changes that end each at or below the start of the one above it are no more than bytes
+stacked-few : (end : Pair → ℕ) (bound : ℕ) (l : List Pair) → Each (λ p. p .offset < end p) l → stacked end bound l ≡ true → length l ≤ bound
+unfolding stacked
+stacked-few end bound [] Each.none h = omega arith
+stacked-few end bound (p ∷ l) (Each.both k a) h =
+    let q = and-both (leb (end p) bound) (stacked end (p .offset) l) h in
+    let ih = stacked-few end (p .offset) l a (q .1) in
+    let e = leb-true (end p) bound (q .0) in
+    omega arith
+
+pub few-changes : (s : List ℕ) (t : Tables) → Opened s t → length (allLeft s) < 4294967295
+few-changes s t w =
+    let k = opened-known s t w in
+    let y = accepted s (w .accepted) in
+    let same : allLeft s ≡ sort (pendingChanges s 0 (rootOffsets s)) = ap sort (all-roots s) in
+    let each : Each (λ p. p .offset < endAt s p) (allLeft s) = each-map (λ p a. allowed-fits s a .starts) (each-sort (all-allowed s (y .chains))) in
+    let stack : stacked (endAt s) (endOf s) (allLeft s) ≡ true = rw same (sym (apart-stacked s (y .chains)) ∙ y .apart) in
+    let few = stacked-few (endAt s) (endOf s) (allLeft s) each stack in
+    omega (arith, k .end, k .end-high, k .long)

@@ -17,9 +17,11 @@ use crate::text::put_hex;
 use lxt_format::Kind;
 use lxt_format::Value;
 use lxt_reader::values;
+use lxt_sections::be32;
 use lxt_tables::Tables;
 use lxt_tables::aliases;
 use lxt_tables::geometry;
+use lxt_values::names;
 use lxt_values::times;
 
 // "refused" and the number.
@@ -104,6 +106,17 @@ pub fn facility(file: &[u8], t: Tables, f: u32, name: &[u8], out: &mut [u8]) -> 
     let p = put_facility(f, name, out);
     let q = put_shape(file, t, f, out, p);
     put_bytes(out, q, &[b'\n'])
+}
+
+// The same line, where the name is yet to be expanded, in a lent buffer.
+pub fn next_facility(file: &[u8], t: Tables, f: u32, name: &mut [u8], out: &mut [u8]) -> usize
+    requires { ⌜ Opened (now file) t × ((f < t .facilities) × ((1023 ≤ length (now name)) × (1100 ≤ length (now out)))) ⌝ }
+    ensures { λ r. ⌜ (r ≡ length (facilityLine (now (file .entry)) f)) × (now (out .exit) ≡ onto (facilityLine (now (file .entry)) f) (now (out .entry))) ⌝ }
+{
+    let head = t.names as usize;
+    let memory = be32(file, head + 4);
+    let size = names::expand(file, head + 8, t.end, t.facilities, memory, f, name);
+    facility(file, t, f, &name[..size], out)
 }
 
 // A change's number, offset and time.
