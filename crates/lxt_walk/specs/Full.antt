@@ -12,7 +12,7 @@ use Rattle.lxt_format.specs.Basics.{range, any, select, joined}
 use Rattle.lxt_format.specs.BasicsLaws.{on-test, on-zero, and-both}
 use Rattle.lxt_format.specs.Sections.{facilityCount, endOf}
 use Rattle.lxt_format.specs.Geometry.{isAlias, rootOf, rootsOf, syncOf}
-use Rattle.lxt_format.specs.Changes.{chainOf, previousOf}
+use Rattle.lxt_format.specs.Changes.{previousOf}
 use Rattle.lxt_format.specs.ChangesLaws.{previous-lt}
 use Rattle.lxt_format.specs.JudgeLaws.{accepted}
 use Rattle.lxt_format.specs.Judge.{chainsRefusal, changesOf, allChanges, endAt, fileRefusal}
