@@ -17,14 +17,9 @@ use Rattle.lxt_format.specs.Bytes.{u16At, toZero}
 use Rattle.lxt_format.specs.BytesLaws.{u16-bytes}
 use Rattle.lxt_format.specs.Names.{named, namesIn, withinMemory, nameAmong}
 use Rattle.lxt_format.specs.Questions.{holdingName}
-use Rattle.lxt_values.specs.Names.{nameAt, Named}
+use Rattle.lxt_values.specs.Names.{nameAt, Named, accepted, coming, Coming, Read}
 
 -- ---- the next name of an allowed list
-
--- no rule is broken
-unfoldable pub accepted : Option (List (List ℕ)) → Bool
-accepted none = false
-accepted (some names) = true
 
 -- names within the memory break no rule
 within-accepted : (M : ℕ) (o : Option (List (List ℕ))) → withinMemory M o ≡ true → accepted o ≡ true
@@ -249,3 +244,69 @@ front name d₀ d r e q = rw (e, q) (take-append-seam name (replicate (longestNa
 -- and has its length
 pub front-length : (name d₀ d : List ℕ) (r : ℕ) → r ≡ length name → d ≡ holdingName name d₀ → r ≡ length (take r d)
 front-length name d₀ d r e q = e ∙ sym (ap length (front name d₀ d r e q))
+
+-- ---- one name after the other
+
+-- the first of accepted names, and the others
+among-first : (name : List ℕ) (o : Option (List (List ℕ))) → accepted o ≡ true → name ≡ nameAmong 0 (named name o)
+unfolding accepted
+among-first name none e = absurd (false≢true e)
+among-first name (some names) e = refl
+
+among-others : (name : List ℕ) (o : Option (List (List ℕ))) (j : ℕ) → accepted o ≡ true → nameAmong j o ≡ nameAmong (suc j) (named name o)
+unfolding accepted
+among-others name none j e = absurd (false≢true e)
+among-others name (some names) j e = refl
+
+-- all names of an allowed table are still to come
+pub all-coming : (s : List ℕ) (at T n M f : ℕ) (d : List ℕ) → Named s at T n M f → 1023 ≤ length d → Coming s T n at 0 d
+all-coming s at T n M f d k room = record {
+  inside = k .inside;
+  inT = k .start;
+  room = room;
+  small = omega arith;
+  allowed = within-accepted M (namesIn n (slice at T s) []) (k .allowed);
+}
+
+module _ (s : List ℕ) (T left p before : ℕ) (d : List ℕ) (h : Coming s T left p before d) (more : 0 < left) where
+  next-here : Step s T left p (take before d)
+  next-here = step s T (h .inside) left p (take before d) more (h .inT) (h .allowed)
+
+  next-prefix : u16At s p ≤ before
+  next-prefix = omega (arith, next-here .prefix, length-take before d)
+
+  pub next-bounds : (p + 2 ≤ T) × (u16At s p ≤ before) × (p + 2 + suffixAt s T p < T) × (u16At s p + suffixAt s T p ≤ 1023)
+  next-bounds = (next-here .two, next-prefix, next-here .ended, next-here .small)
+
+  pub next-read : (k y : ℕ) (d′ : List ℕ) → k ≡ u16At s p → y ≡ suffixAt s T p → d′ ≡ paste d k (drop (p + 2) s) y
+      → Read s T left p before d (left - 1) (p + 2 + y + 1) (k + y) d′
+  next-read k y d′ ek ey ed =
+      let st = next-here in
+      let ended = st .ended in
+      let small = st .small in
+      let pre = next-prefix in
+      let room = h .room in
+      let low = h .small in
+      let t = h .inside in
+      let bytes : List ℕ = drop (p + 2) s in
+      let in-d : k + y ≤ length d = omega arith in
+      let k-d : k ≤ length d = omega arith in
+      let k-len : k ≤ before = omega arith in
+      let in-s : y ≤ length bytes = omega (arith, length-drop (p + 2) s) in
+      let in-T : p + 2 + y ≤ T = omega arith in
+      let held : take (k + y) d′ ≡ nameHere s T p (take before d) =
+      rw ed (take-paste d k bytes y k-d in-s ∙ rw (← take-take k before d k-len, ← uncut s T (p + 2) y t in-T, ek, ey)) in
+      let after : p + 2 + y + 1 ≡ p + 2 + suc (suffixAt s T p) = omega arith in
+      let long : length d′ ≡ length d = rw ed (length-paste d k bytes y in-d in-s) in
+      record {
+        rest = record {
+          inside = h .inside;
+          inT = omega arith;
+          room = omega arith;
+          small = omega arith;
+          allowed = rw (after, held) (st .rest);
+        };
+        count = omega arith;
+        name = rw (held, st .list) (among-first (nameHere s T p (take before d)) _ (st .rest));
+        others = λ j. rw (after, held, st .list) (among-others (nameHere s T p (take before d)) _ j (st .rest));
+      }

@@ -4,7 +4,7 @@ ghost use Prim.Native.Nat.{_+_, _-_, _≤_, _<_};
 ghost use lib.ListN.{length, drop, replicate};
 ghost use lib.Seq.{paste};
 ghost use Rattle.lxt_format.specs.Questions.{holdingName};
-ghost use Rattle.lxt_values.specs.Names.{Named, nameAt};
+ghost use Rattle.lxt_values.specs.Names.{Named, nameAt, Coming, Read};
 use crate::texts;
 use lxt_format::NameCursor;
 use lxt_sections::be16;
@@ -78,4 +78,29 @@ pub fn part<'f, 'a>(
 {
     let len = expand(file, at, end, n, memory, f, names);
     &mut names[..len]
+}
+
+// What is left of a name table: how many names, where the next one starts, and the length of the name
+// before it, which a buffer holds.
+pub struct NamesLeft {
+    pub left: u32,
+    pub at: usize,
+    pub before: usize,
+}
+
+// Expands the next name in the buffer; its length stands in what is left after it.
+pub fn next(file: &[u8], end: usize, from: NamesLeft, names: &mut [u8]) -> NamesLeft
+    requires { ⌜ Coming (now file) end (from .left) (from .at) (from .before) (now names) × (0 < from .left) ⌝ }
+    ensures { λ r. ⌜ Read (now (file .entry)) end (from .left) (from .at) (from .before) (now (names .entry)) (r .left) (r .at) (r .before) (now (names .exit)) ⌝ }
+{
+    let at = from.at;
+    let prefix = be16(file, at) as usize;
+    let suffix = at + 2;
+    let count = texts::length(file, suffix, end);
+    copy_part(file, suffix, count, names, prefix);
+    NamesLeft {
+        left: from.left - 1,
+        at: suffix + count + 1,
+        before: prefix + count,
+    }
 }
