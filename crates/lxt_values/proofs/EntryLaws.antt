@@ -7,9 +7,8 @@ use lib.Dec.{leb}
 use native.Mathlib.Omega.{arith}
 use native.Mathlib.Decide.{decLe}
 use borrow.Author.Tests.{le-leb, lt-leb}
-use Rattle.lxt_format.specs.Basics.{if_then_else_}
 use Rattle.lxt_format.specs.BasicsLaws.{on-test}
-use Rattle.lxt_format.specs.Bytes.{u32At, u32sAt}
+use Rattle.lxt_format.specs.Bytes.{u32At}
 use Rattle.lxt_format.specs.BytesLaws.{length-u32s, getD-u32s}
 use Rattle.lxt_format.specs.Sections.{sectionOf, timeCount}
 use Rattle.lxt_format.specs.Times.{positionDeltas, timeDeltas, sumsFrom, positionsOf, timesOf, timeFrom, timeOf}

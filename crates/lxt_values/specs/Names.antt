@@ -1,10 +1,10 @@
 -- What the functions on names ask of the file, and the name that they answer.
-use Prim.Native.Nat.{ℕ, suc, _+_, _-_, _≤_, _<_}
+use Prim.Native.Nat.{ℕ, suc, _+_, _≤_, _<_}
 use mathlib.Core.Path.{_≡_, refl}
 use mathlib.Core.Bool.{Bool, true, false}
 use mathlib.Core.List.{List, []}
 use mathlib.Core.Option.{Option, none, some}
-use lib.ListN.{length, take}
+use lib.ListN.{length, take, drop}
 use lib.Seq.{slice}
 use Rattle.lxt_format.specs.Sections.{sectionOf, endOf, facilityCount}
 use Rattle.lxt_format.specs.Names.{namesIn, withinMemory, nameAmong, nameTable, nameOf}
@@ -44,9 +44,11 @@ pub record Coming (s : List ℕ) (T left p before : ℕ) (buffer : List ℕ) : T
   pub small : before ≤ 1023
   pub allowed : accepted (coming s T left p before buffer) ≡ true
 
--- the first of them is read: the buffer holds it as its first `size` bytes, and the others follow
+-- the first of them is read: the buffer holds it as its first `size` bytes, the others follow, and bytes from 1,023 on stay
 pub record Read (s : List ℕ) (T left p before : ℕ) (buffer : List ℕ) (left′ p′ size : ℕ) (buffer′ : List ℕ) : Type 0 where
   pub rest : Coming s T left′ p′ size buffer′
   pub count : left′ + 1 ≡ left
   pub name : take size buffer′ ≡ nameAmong 0 (coming s T left p before buffer)
   pub others : (j : ℕ) → nameAmong j (coming s T left′ p′ size buffer′) ≡ nameAmong (suc j) (coming s T left p before buffer)
+  pub same-length : length buffer′ ≡ length buffer
+  pub tail : drop 1023 buffer′ ≡ drop 1023 buffer

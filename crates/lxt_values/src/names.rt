@@ -33,53 +33,6 @@ fn clear(names: &mut [u8], from: usize, to: usize)
     }
 }
 
-// The name of facility `f` of the `n` names from `at` up to `end`: its length. The buffer then holds
-// the name, zeros up to 1,023 bytes, and what stood after them.
-pub fn expand(
-    file: &[u8],
-    at: usize,
-    end: usize,
-    n: u32,
-    memory: u32,
-    f: u32,
-    names: &mut [u8],
-) -> usize
-    requires { ⌜ Named (now file) at end n memory f × (1023 ≤ length (now names)) ⌝ }
-    ensures { λ r. ⌜ (r ≡ length (nameAt (now (file .entry)) at end n f)) × (now (names .exit) ≡ holdingName (nameAt (now (file .entry)) at end n f) (now (names .entry))) ⌝ }
-{
-    let mut p = at;
-    let mut len: usize = 0;
-    let mut left = f + 1;
-    while 0 < left {
-        let prefix = be16(file, p) as usize;
-        let from = p + 2;
-        let count = texts::length(file, from, end);
-        copy_part(file, from, count, names, prefix);
-        len = prefix + count;
-        p = from + count + 1;
-        left -= 1;
-    }
-    clear(names, len, NameCursor::LONGEST);
-    len
-}
-
-// The name itself: the first bytes of the lent buffer, which is written alike.
-pub fn part<'f, 'a>(
-    file: &'f [u8],
-    at: usize,
-    end: usize,
-    n: u32,
-    memory: u32,
-    f: u32,
-    names: &'a mut [u8],
-) -> &'a mut [u8]
-    requires { ⌜ Named (now file) at end n memory f × (1023 ≤ length (now names)) ⌝ }
-    ensures { λ r. ⌜ now r ≡ nameAt (now (file .entry)) at end n f ⌝ }
-{
-    let len = expand(file, at, end, n, memory, f, names);
-    &mut names[..len]
-}
-
 // What is left of a name table: how many names, where the next one starts, and the length of the name
 // before it, which a buffer holds.
 pub struct NamesLeft {
@@ -103,4 +56,49 @@ pub fn next(file: &[u8], end: usize, from: NamesLeft, names: &mut [u8]) -> Names
         at: suffix + count + 1,
         before: prefix + count,
     }
+}
+
+// The name of facility `f` of the `n` names from `at` up to `end`: its length. The buffer then holds
+// the name, zeros up to 1,023 bytes, and what stood after them.
+pub fn expand(
+    file: &[u8],
+    at: usize,
+    end: usize,
+    n: u32,
+    memory: u32,
+    f: u32,
+    names: &mut [u8],
+) -> usize
+    requires { ⌜ Named (now file) at end n memory f × (1023 ≤ length (now names)) ⌝ }
+    ensures { λ r. ⌜ (r ≡ length (nameAt (now (file .entry)) at end n f)) × (now (names .exit) ≡ holdingName (nameAt (now (file .entry)) at end n f) (now (names .entry))) ⌝ }
+{
+    let mut c = NamesLeft {
+        left: n,
+        at,
+        before: 0,
+    };
+    let mut wanted = f + 1;
+    while 0 < wanted {
+        c = next(file, end, c, names);
+        wanted -= 1;
+    }
+    clear(names, c.before, NameCursor::LONGEST);
+    c.before
+}
+
+// The name itself: the first bytes of the lent buffer, which is written alike.
+pub fn part<'f, 'a>(
+    file: &'f [u8],
+    at: usize,
+    end: usize,
+    n: u32,
+    memory: u32,
+    f: u32,
+    names: &'a mut [u8],
+) -> &'a mut [u8]
+    requires { ⌜ Named (now file) at end n memory f × (1023 ≤ length (now names)) ⌝ }
+    ensures { λ r. ⌜ now r ≡ nameAt (now (file .entry)) at end n f ⌝ }
+{
+    let len = expand(file, at, end, n, memory, f, names);
+    &mut names[..len]
 }
