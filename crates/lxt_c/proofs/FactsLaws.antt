@@ -1,16 +1,15 @@
 -- What the answer of a facility's facts says of the numbers that the C function writes.
-use Prim.Native.Nat.{ℕ, _-_, _^_, _<_}
-use mathlib.Core.Path.{_≡_, refl, sym, _∙_, ap}
-use mathlib.Core.Bool.{Bool, true, false}
+use Prim.Native.Nat.{ℕ, _^_}
+use mathlib.Core.Path.{_≡_}
 use mathlib.Core.List.{List, [], _∷_}
-use lib.IntN.{ℤ, pos, negsuc}
+use lib.IntN.{ℤ}
 use lib.Dec.{ltb, lit<}
 use native.Mathlib.Omega.{arith}
 use mir.Syntax.{w32}
 use mir.Val.{SFits, toZ, ofZ}
 use mir.ValLaws.{toZ-ofZ}
 use borrow.Author.Tests.{ltb-true, ltb-false}
-use Rattle.lxt_format.specs.Basics.{if_then_else_, Answer, given, refused, answer}
+use Rattle.lxt_format.specs.Basics.{given}
 use Rattle.lxt_format.specs.BasicsLaws.{on-test}
 use Rattle.lxt_format.specs.Bytes.{signed}
 use Rattle.lxt_format.specs.Geometry.{rootOf, factsBy, ownFacts, factsOf, kindOfFlags, flagsOf, msbOf, lsbOf}

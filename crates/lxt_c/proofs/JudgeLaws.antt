@@ -1,14 +1,12 @@
 -- What judging's answer says of the numbers that the C function writes.
-use Prim.Native.Nat.{ℕ, zero, suc, _≤_, _<_}
-use mathlib.Core.Path.{_≡_, refl, sym, _∙_, ap}
-use mathlib.Core.Bool.{Bool, true, false}
+use Prim.Native.Nat.{ℕ}
+use mathlib.Core.Path.{_≡_}
 use mathlib.Core.List.{List, [], _∷_}
-use lib.ListN.{length, set}
 use lib.IntN.{ℤ}
 use mir.Syntax.{w8}
 use mir.Val.{SFits, toZ, ofZ}
 use mir.ValLaws.{toZ-ofZ}
-use Rattle.lxt_format.specs.Basics.{if_then_else_, Answer, given, refused, answer}
+use Rattle.lxt_format.specs.Basics.{given}
 use Rattle.lxt_format.specs.Judge.{fileRefusal, summaryOf, judge}
 use Rattle.lxt_format.specs.Answers.{judgementSays}
 use Rattle.lxt_format.specs.declared.Summary.{Summary}

@@ -1,22 +1,20 @@
 -- Check 17: the changes of all roots by falling offset.
-use Prim.Native.Nat.{ℕ, zero, suc, _+_, _-_, _≤_, _<_}
-use mathlib.Core.Path.{_≡_, refl, sym, _∙_, ap}
+use Prim.Native.Nat.{ℕ, suc, _≤_, _<_}
+use mathlib.Core.Path.{_≡_, refl, sym, _∙_}
 use mathlib.Core.Bool.{Bool, true, false, _&&_}
-use mathlib.Core.List.{List, [], _∷_, map}
-use lib.ListN.{length, getD, set, drop, length-set, List·getD-eq-default}
-use lib.Seq.{getD-set-same, getD-set-other, getD-drop}
+use mathlib.Core.List.{List, [], _∷_}
+use lib.ListN.{length, getD, set, drop, List·getD-eq-default}
+use lib.Seq.{getD-set-other}
 use lib.Dec.{leb}
 use native.Mathlib.Omega.{arith}
-use native.Mathlib.Decide.{decLe, ℕ-discrete}
-use Rattle.lxt_format.specs.Basics.{if_then_else_}
-use Rattle.lxt_format.specs.Sections.{facilityCount, changesFrom, endOf}
+use native.Mathlib.Decide.{decLe}
+use Rattle.lxt_format.specs.Sections.{changesFrom, endOf}
 use Rattle.lxt_format.specs.Geometry.{isAlias, syncOf, ownFacts}
 use Rattle.lxt_format.specs.Changes.{dataAt, previousOf, changeEnd}
 use Rattle.lxt_format.specs.ChangesLaws.{previous-lt, Sound}
 use Rattle.lxt_format.specs.Judge.{endAt, changesApart, chainsRefusal}
 use Rattle.lxt_format.specs.Walk.{sort, top, high, step}
 use Rattle.lxt_chains.specs.Pending.{pairOf, pendingChanges, rootOffsets}
-use Rattle.lxt_chains.specs.Lists.{Each}
 use Rattle.lxt_chains.specs.Sorted.{each-sort}
 use Rattle.lxt_chains.specs.Step.{changes-none, length-left}
 use Rattle.lxt_chains.specs.Bridge.{all-roots, length-roots, getD-roots}

@@ -1,29 +1,24 @@
 -- The chains of all roots, and what their changes are read with.
 use Prim.Native.Nat.{ℕ, zero, suc, _+_, _-_, _≤_, _<_}
 use mathlib.Core.Path.{_≡_, refl, sym, _∙_, ap}
-use mathlib.Core.Logic.{_⊎_, inl, inr, ⊎-elim}
-use mathlib.Core.Bool.{Bool, true, false, not, _&&_, _||_, false≢true}
+use mathlib.Core.Bool.{Bool, true, false, not, false≢true}
 use mathlib.Core.List.{List, [], _∷_, map}
-use lib.ListN.{length}
-use lib.Dec.{leb, eqb, lit≤}
+use lib.Dec.{leb, lit≤}
 use native.Mathlib.Omega.{arith}
 use native.Mathlib.Numerals.{add-one}
-use native.Mathlib.Decide.{ℕ-discrete}
-use borrow.Author.Tests.{eq-eqb, ne-eqb, leb-true, not-true, not-false}
-use Rattle.lxt_format.specs.Basics.{if_then_else_, _orElse_, range, all, select, firstFault}
-use Rattle.lxt_format.specs.BasicsLaws.{all-range, and-both, or-either, on-test, range-upto, range-done, fault-next, fault-here}
-use Rattle.lxt_format.specs.Sections.{facilityCount, changesFrom, endOf}
-use Rattle.lxt_format.specs.Geometry.{isAlias, rowsOf, msbOf, lsbOf, flagsOf, flagsAllowed, kindOfFlags, widthBetween, geometryAllowed, geometriesAllowed, factsBy, ownFacts, rootsOf, syncOf}
+use Rattle.lxt_format.specs.Basics.{_orElse_, range, select, firstFault}
+use Rattle.lxt_format.specs.BasicsLaws.{all-range, on-test, range-upto, range-done, fault-next, fault-here}
+use Rattle.lxt_format.specs.Sections.{facilityCount}
+use Rattle.lxt_format.specs.Geometry.{isAlias, msbOf, lsbOf, flagsOf, kindOfFlags, widthBetween, geometryAllowed, geometriesAllowed, factsBy, ownFacts, rootsOf, syncOf}
 use Rattle.lxt_format.specs.Changes.{chainFault, changeEnd}
 use Rattle.lxt_format.specs.Judge.{faultFrom, chainsRefusal, endAt}
 use Rattle.lxt_format.specs.declared.Kind.{Kind}
 use Rattle.lxt_format.specs.declared.Kind.the-variants.{Bits, Integer, Real, Text}
 use Rattle.lxt_format.specs.declared.Facts.{Facts}
-use Rattle.lxt_format.specs.Limits.{widestFacility}
 use Rattle.lxt_tables.specs.Stage.{Geometry}
 use Rattle.lxt_tables.proofs.FacilityLaws.{width-fits}
-use Rattle.lxt_changes.specs.Faults.{LastZero, symbolic, Setting}
-use Rattle.lxt_chains.specs.Reading.{Ready, Stepping, facilityFault}
+use Rattle.lxt_changes.specs.Faults.{symbolic, Setting}
+use Rattle.lxt_chains.specs.Reading.{Ready, facilityFault}
 use Rattle.lxt_chains.specs.declared.chains.Chains.{Chains}
 
 -- ---- the facts of a root are allowed

@@ -1,4 +1,3 @@
-pub mod PendingLaws
 pub mod ChainLaws
 pub mod TreeLaws
 pub mod ApartLaws

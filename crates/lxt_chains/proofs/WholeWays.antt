@@ -1,29 +1,18 @@
 -- A law for each way out of the checks of a whole file.
-use Prim.Native.Nat.{ℕ, _+_, _≤_, _<_}
-use mathlib.Core.Path.{_≡_, refl, sym, _∙_, ap}
-use mathlib.Core.Bool.{Bool, true, false, _&&_}
+use Prim.Native.Nat.{ℕ, _≤_}
+use mathlib.Core.Path.{_≡_, sym, _∙_}
+use mathlib.Core.Bool.{Bool, true, false}
 use mathlib.Core.List.{List}
 use lib.ListN.{length}
-use lib.IntN.{ℤ, pos, negsuc}
-use lib.Dec.{leb, lit<}
 use native.Mathlib.Omega.{arith}
-use mir.Syntax.{w8}
-use mir.Val.{SFits, toZ, ofZ}
-use mir.ValLaws.{toZ-ofZ}
-use borrow.Author.Tests.{ne-eqb, leb-true}
-use Rattle.lxt_format.specs.Basics.{if_then_else_, _unless_, _orElse_, Answer, given, refused, answer}
-use Rattle.lxt_format.specs.Bytes.{byteAt, signed}
-use Rattle.lxt_format.specs.BasicsLaws.{on-test, and-both, stops, answer-given, answer-refused}
-use Rattle.lxt_format.specs.Sections.{sectionOf, present, endOf, timescaleAllowed, timescaleOf}
-use Rattle.lxt_format.specs.Judge.{tablesRefusal, chainsRefusal, changesApart, fileRefusal, summaryOf, judge}
-use Rattle.lxt_format.specs.JudgeLaws.{accepted}
-use Rattle.lxt_format.specs.declared.Summary.{Summary}
+use Rattle.lxt_format.specs.Basics.{_unless_, _orElse_}
+use Rattle.lxt_format.specs.BasicsLaws.{stops}
+use Rattle.lxt_format.specs.Judge.{tablesRefusal, chainsRefusal, changesApart, fileRefusal}
 use Rattle.lxt_tables.specs.Stage.{tablesOf}
 use Rattle.lxt_tables.specs.declared.Tables.{Tables}
-use Rattle.lxt_tables.proofs.TablesLaws.{Known, known, refusal-is}
+use Rattle.lxt_tables.proofs.TablesLaws.{known, refusal-is}
 use Rattle.lxt_changes.specs.Faults.{LastZero}
 use Rattle.lxt_chains.specs.Reading.{Ready}
-use Rattle.lxt_chains.specs.declared.chains.Chains.{Chains}
 
 module _ (s : List ℕ) (t : Tables) (e : t ≡ tablesOf s) where
   -- what the chains are read with

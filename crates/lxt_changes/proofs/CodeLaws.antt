@@ -1,17 +1,17 @@
 -- When packed symbols are allowed: by their bytes for 4 bits, by the padding alone for 1 and 2.
 use Prim.Native.Nat.{ℕ, zero, suc, _+_, _*_, _-_, _≤_, _<_, _/_, _%_, _^_}
 use mathlib.Core.Path.{_≡_, refl, sym, _∙_, ap}
-use mathlib.Core.Logic.{_⊎_, inl, inr, ⊎-elim}
-use mathlib.Core.Bool.{Bool, true, false, not, _&&_, _||_, and-assoc, and-true, and-false, false≢true}
+use mathlib.Core.Logic.{⊎-elim}
+use mathlib.Core.Bool.{Bool, true, false, _&&_, and-assoc, and-true, and-false}
 use mathlib.Core.List.{List, [], _∷_, _++_}
 use lib.ListN.{length, getD, take}
 use lib.Seq.{getD-drop, getD-take, take-nil, slice, slice-cons, slice-empty, length-slice}
-use lib.Dec.{leb, eqb, lit<, lit≤}
+use lib.Dec.{leb, lit<, lit≤}
 use native.Mathlib.Omega.{arith}
 use native.Mathlib.Nat.{div-one, mod-lt}
-use borrow.Author.Tests.{eq-eqb, ne-eqb, le-leb, lt-leb, leb-true, eqb-true, eqb-false}
-use Rattle.lxt_format.specs.Basics.{if_then_else_, range, all, joined}
-use Rattle.lxt_format.specs.BasicsLaws.{and-both, both-and, on-test}
+use borrow.Author.Tests.{eq-eqb, ne-eqb, le-leb, eqb-true}
+use Rattle.lxt_format.specs.Basics.{range, all, joined}
+use Rattle.lxt_format.specs.BasicsLaws.{and-both, both-and}
 use Rattle.lxt_format.specs.Bytes.{byteAt}
 use Rattle.lxt_format.specs.Changes.{packedSize, digits, unpack, codesAt, codesAllowed, paddingAllowed, symbolsAllowed}
 use Rattle.lxt_changes.specs.Windows.{goodByte, allGood, Known, Answered, Data}

@@ -1,20 +1,20 @@
 -- A law for each way out of the functions on faults.
-use Prim.Native.Nat.{ℕ, zero, suc, _+_, _*_, _-_, _≤_, _<_, _%_, zero-le}
+use Prim.Native.Nat.{ℕ, zero, suc, _+_, _-_, _≤_, _<_, _%_, zero-le}
 use mathlib.Core.Path.{_≡_, refl, sym, _∙_, ap}
-use mathlib.Core.Logic.{_⊎_, inl, inr, ⊎-elim}
-use mathlib.Core.Bool.{Bool, true, false, not, _&&_, _||_, and-false, false≢true}
-use mathlib.Core.List.{List, [], _∷_}
+use mathlib.Core.Logic.{_⊎_, inl, inr}
+use mathlib.Core.Bool.{Bool, true, false, _&&_, and-false}
+use mathlib.Core.List.{List, []}
 use lib.ListN.{length, getD}
 use lib.Seq.{slice, getD-drop, getD-take, length-slice}
-use lib.Dec.{ltb, leb, eqb, lit<}
+use lib.Dec.{ltb, leb, lit<}
 use native.Mathlib.Omega.{arith}
 use native.Mathlib.Decide.{ℕ-discrete, decLe}
-use borrow.Author.Tests.{eq-eqb, ne-eqb, le-leb, lt-leb, lt-ltb, le-ltb, not-true, not-false, leb-true, ltb-true}
-use Rattle.lxt_format.specs.Basics.{if_then_else_, _unless_, _orElse_}
+use borrow.Author.Tests.{eq-eqb, ne-eqb, le-leb, lt-leb, lt-ltb, le-ltb, leb-true, ltb-true}
+use Rattle.lxt_format.specs.Basics.{_unless_, _orElse_}
 use Rattle.lxt_format.specs.Bytes.{byteAt, toZero}
 use Rattle.lxt_format.specs.BasicsLaws.{neither, kept, stops, and-both}
-use Rattle.lxt_format.specs.ChangesLaws.{previous-lt, faults-none, faults-next, faults-here, Sound, sound}
-use Rattle.lxt_format.specs.BytesLaws.{toZero-le, at-zero, zero-bounds}
+use Rattle.lxt_format.specs.ChangesLaws.{previous-lt, faults-none, faults-next, faults-here, sound}
+use Rattle.lxt_format.specs.BytesLaws.{at-zero, zero-bounds}
 use Rattle.lxt_format.specs.Changes.{commandOf, deltaSize, dataAt, previousOf, commandAllowed, symbolSize, packedSize, symbolsAllowed, dataSize, dataAllowed, changeEnd, previousAllowed, faultAt, chainFault}
 use Rattle.lxt_format.specs.declared.Kind.{Kind}
 use Rattle.lxt_format.specs.declared.Kind.the-variants.{Bits, Integer, Real, Text}

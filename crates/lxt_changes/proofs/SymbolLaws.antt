@@ -1,23 +1,21 @@
 -- A law for each way out of the functions on symbols.
-use Prim.Native.Nat.{ℕ, zero, suc, _+_, _*_, _-_, _≤_, _<_, _/_, _%_, _^_, zero-le}
-use mathlib.Core.Path.{_≡_, refl, sym, _∙_, ap}
+use Prim.Native.Nat.{ℕ, suc, _+_, _*_, _-_, _≤_, _<_, _/_, _%_, _^_, zero-le}
+use mathlib.Core.Path.{_≡_, refl, sym, _∙_}
 use mathlib.Core.Logic.{_⊎_, inl, inr, ⊎-elim}
-use mathlib.Core.Bool.{Bool, true, false, not, _&&_, _||_, false≢true}
-use mathlib.Core.List.{List, [], _∷_, _++_}
-use lib.ListN.{length, getD, take}
-use lib.Seq.{slice, slice-cons, slice-empty}
+use mathlib.Core.Bool.{Bool, true, false, _&&_, _||_, false≢true}
+use mathlib.Core.List.{List, []}
+use lib.ListN.{length}
 use lib.Dec.{ltb, leb, eqb}
 use native.Mathlib.Omega.{arith}
 use native.Mathlib.Nat.{mul-le-mul}
 use native.Mathlib.Decide.{ℕ-discrete, decLe}
-use borrow.Author.Tests.{eq-eqb, ne-eqb, le-leb, lt-leb, leb-true, not-true, not-false}
-use Rattle.lxt_format.specs.Basics.{if_then_else_, range, all}
+use borrow.Author.Tests.{ne-eqb, le-leb, lt-leb}
+use Rattle.lxt_format.specs.Basics.{range, all}
 use Rattle.lxt_format.specs.BasicsLaws.{range-all, all-range, on-test}
 use Rattle.lxt_format.specs.Bytes.{byteAt}
 use Rattle.lxt_format.specs.Changes.{commandAllowed, symbolSize, packedSize, paddingAllowed}
-use Rattle.lxt_changes.specs.Windows.{goodByte, allGood, Good, Scanned, Known, Answered, Data}
+use Rattle.lxt_changes.specs.Windows.{goodByte, allGood, Good, Scanned, Known, Answered}
 use Rattle.lxt_changes.specs.declared.symbols.Window.{Window}
-use Rattle.lxt_changes.specs.declared.symbols.Checked.{Checked}
 use Rattle.lxt_format.specs.declared.Kind.{Kind}
 use Rattle.lxt_format.specs.declared.Kind.the-variants.{Bits, Integer, Real, Text}
 

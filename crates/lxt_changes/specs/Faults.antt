@@ -5,9 +5,9 @@ use mathlib.Core.Bool.{Bool, true, false, _&&_}
 use mathlib.Core.List.{List}
 use lib.ListN.{length}
 use lib.Dec.{ltb, leb}
-use Rattle.lxt_format.specs.Basics.{if_then_else_, _unless_, _orElse_}
+use Rattle.lxt_format.specs.Basics.{_unless_, _orElse_}
 use Rattle.lxt_format.specs.Bytes.{byteAt}
-use Rattle.lxt_format.specs.Changes.{commandOf, dataAt, commandAllowed, symbolSize, packedSize, symbolsAllowed, dataAllowed, changeEnd, previousAllowed}
+use Rattle.lxt_format.specs.Changes.{commandOf, dataAt, commandAllowed, symbolSize, packedSize, symbolsAllowed, dataAllowed, changeEnd}
 use Rattle.lxt_format.specs.declared.Kind.{Kind}
 use Rattle.lxt_format.specs.declared.Kind.the-variants.{Bits, Integer, Real, Text}
 use Rattle.lxt_changes.specs.Windows.{Known}

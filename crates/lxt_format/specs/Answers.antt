@@ -1,7 +1,6 @@
 -- The number and the values of paper 01 that each case of an answer's enum stands for. The promises of the public calls use these.
 use Prim.Native.Nat.{ℕ}
 use mathlib.Core.Bool.{Bool}
-use mathlib.Core.List.{List}
 use lib.ListN.{length}
 use lib.Ieee.{Float}
 use Rattle.lxt_format.specs.Basics.{Answer, given, refused}

@@ -1,6 +1,5 @@
 -- Numbers in a file. A file is a list of bytes; past its end a byte counts as 0, so that every definition is total.
 use Prim.Native.Nat.{ℕ, zero, suc, _+_, _*_, _-_, _^_}
-use mathlib.Core.Bool.{Bool, true, false}
 use mathlib.Core.List.{List, [], _∷_}
 use lib.ListN.{getD}
 use lib.IntN.{ℤ, pos, negsuc}

@@ -1,17 +1,16 @@
 -- Laws of changes and chains.
-use Prim.Native.Nat.{ℕ, zero, suc, _+_, _*_, _-_, _≤_, _<_, _%_, _/_}
-use mathlib.Core.Path.{_≡_, refl, sym, _∙_, ap}
-use mathlib.Core.Bool.{Bool, true, false, _&&_, _||_}
-use mathlib.Core.List.{List, [], _∷_, map}
-use lib.ListN.{length}
-use lib.Dec.{ltb, leb, eqb, lit<}
+use Prim.Native.Nat.{ℕ, zero, suc, _+_, _≤_, _<_}
+use mathlib.Core.Path.{_≡_, refl, ap}
+use mathlib.Core.Bool.{true}
+use mathlib.Core.List.{List, [], _∷_}
+use lib.Dec.{lit<}
 use native.Mathlib.Omega.{arith}
 use native.Mathlib.Decide.{ℕ-discrete}
 use borrow.Author.Tests.{eq-eqb, ne-eqb, leb-true, ltb-true}
-use Rattle.lxt_format.specs.Basics.{if_then_else_, _unless_, _orElse_, firstFault}
+use Rattle.lxt_format.specs.Basics.{firstFault}
 use Rattle.lxt_format.specs.BasicsLaws.{and-both, kept, neither, fault-next, fault-here}
 use Rattle.lxt_format.specs.Bytes.{byteAt}
-use Rattle.lxt_format.specs.Changes.{commandOf, deltaSize, deltaOf, dataAt, previousOf, commandAllowed, dataSize, dataAllowed, changeEnd, previousAllowed, faultAt, chainWithin, chainOf, chainFault}
+use Rattle.lxt_format.specs.Changes.{commandOf, deltaSize, dataAt, previousOf, commandAllowed, dataAllowed, changeEnd, previousAllowed, faultAt, chainWithin, chainOf, chainFault}
 use Rattle.lxt_format.specs.declared.Kind.{Kind}
 
 -- ---- the previous change

@@ -1,12 +1,12 @@
 -- Paper 01, "A whole small trace, and its neighbours": P1 to P12, as one table under one statement.
 use Prim.Native.Nat.{ℕ}
 use mathlib.Core.Path.{_≡_, refl}
-use mathlib.Core.Bool.{Bool, true, false}
+use mathlib.Core.Bool.{true, false}
 use mathlib.Core.List.{List, [], _∷_, _++_, map}
-use mathlib.Core.Option.{Option, none, some}
+use mathlib.Core.Option.{none, some}
 use lib.ListN.{set, replicate}
 use lib.IntN.{pos, negsuc}
-use Rattle.lxt_format.specs.Basics.{Answer, given, refused}
+use Rattle.lxt_format.specs.Basics.{given}
 use Rattle.lxt_format.specs.Names.{namesIn, withinMemory, nameOf}
 use Rattle.lxt_format.specs.Changes.{previousOf, unpack}
 use Rattle.lxt_format.specs.Values.{symbolOf}

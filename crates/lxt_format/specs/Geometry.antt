@@ -1,8 +1,8 @@
 -- Paper 01, "Names, facilities, times": geometry, aliases and roots, refusals 11 and 12.
 use Prim.Native.Nat.{ℕ, zero, suc, _+_, _*_, _/_, _%_}
-use mathlib.Core.Bool.{Bool, true, false, not, _&&_, _||_}
+use mathlib.Core.Bool.{Bool, not, _&&_, _||_}
 use mathlib.Core.List.{List}
-use lib.IntN.{ℤ, pos, natAbs, _-ℤ_}
+use lib.IntN.{pos, natAbs, _-ℤ_}
 use lib.Dec.{ltb, leb, eqb}
 use Rattle.lxt_format.specs.Limits.{widestFacility}
 use Rattle.lxt_format.specs.Basics.{if_then_else_, range, all, select}

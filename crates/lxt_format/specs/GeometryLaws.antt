@@ -1,13 +1,12 @@
 -- Laws of aliases and roots.
-use Prim.Native.Nat.{ℕ, zero, suc, _+_, _≤_, _<_}
-use mathlib.Core.Path.{_≡_, refl, sym, _∙_, ap}
-use mathlib.Core.Bool.{Bool, true, false, false≢true}
+use Prim.Native.Nat.{ℕ, zero, suc, _≤_, _<_}
+use mathlib.Core.Path.{_≡_, refl}
+use mathlib.Core.Bool.{true, false}
 use mathlib.Core.List.{List}
-use lib.Dec.{ltb, leb}
+use lib.Dec.{ltb}
 use native.Mathlib.Omega.{arith}
 use native.Mathlib.Decide.{decLe}
-use borrow.Author.Tests.{lt-leb, le-leb, leb-true, leb-false, ltb-true}
-use Rattle.lxt_format.specs.Basics.{if_then_else_, range, all}
+use borrow.Author.Tests.{lt-leb, le-leb, ltb-true}
 use Rattle.lxt_format.specs.BasicsLaws.{on-test, all-range}
 use Rattle.lxt_format.specs.Sections.{facilityCount}
 use Rattle.lxt_format.specs.Geometry.{rowsOf, isAlias, rootWithin, rootOf, aliasesAllowed}

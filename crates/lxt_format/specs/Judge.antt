@@ -1,9 +1,9 @@
 -- Paper 01, "Refusal numbers": the refusals of a file, 1 to 17, in their order.
-use Prim.Native.Nat.{ℕ, _+_}
-use mathlib.Core.Bool.{Bool, true, false, not, _&&_, _||_}
+use Prim.Native.Nat.{ℕ}
+use mathlib.Core.Bool.{Bool, true, not, _&&_, _||_}
 use mathlib.Core.List.{List, [], _∷_, map}
-use lib.Dec.{leb, eqb}
-use Rattle.lxt_format.specs.Basics.{if_then_else_, _unless_, _orElse_, Answer, answer, all, joined, firstFault}
+use lib.Dec.{leb}
+use Rattle.lxt_format.specs.Basics.{_unless_, _orElse_, Answer, answer, all, joined, firstFault}
 use Rattle.lxt_format.specs.Sections.{lengthAllowed, startsRight, endsRight, listingOf, nothingCompressed, present, sectionsPresent, bodiesInside, countAllowed, facilityCount, changesFrom, endOf, timescaleOf, initialOf}
 use Rattle.lxt_format.specs.Names.{namesAllowed}
 use Rattle.lxt_format.specs.Geometry.{geometriesAllowed, aliasesAllowed, rootsOf, ownFacts, syncOf}

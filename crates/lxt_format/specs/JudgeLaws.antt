@@ -1,14 +1,14 @@
 -- What "accepted" means, as facts that the layers above cite.
 use Prim.Native.Nat.{ℕ, zero, suc, _+_, _≤_, _<_}
-use mathlib.Core.Path.{_≡_, refl, sym, _∙_, ap}
-use mathlib.Core.Bool.{Bool, true, false, not, _&&_, false≢true}
-use mathlib.Core.List.{List, [], _∷_, map}
+use mathlib.Core.Path.{_≡_, sym, _∙_}
+use mathlib.Core.Bool.{Bool, true, false, not, false≢true}
+use mathlib.Core.List.{List, [], map}
 use lib.ListN.{length}
-use lib.Dec.{leb, eqb, lit<}
+use lib.Dec.{lit<}
 use native.Mathlib.Omega.{arith}
 use native.Mathlib.Decide.{ℕ-discrete}
 use borrow.Author.Tests.{leb-true, not-true}
-use Rattle.lxt_format.specs.Basics.{if_then_else_, _unless_, _orElse_, range, all, any, select, firstFault}
+use Rattle.lxt_format.specs.Basics.{range, select, firstFault}
 use Rattle.lxt_format.specs.BasicsLaws.{on-test, and-both, kept, neither}
 use Rattle.lxt_format.specs.Sections.{lengthAllowed, startsRight, endsRight, listingOf, nothingCompressed, present, sectionsPresent, bodiesInside, countAllowed, facilityCount, changesFrom, endOf}
 use Rattle.lxt_format.specs.SectionsLaws.{Located, located}

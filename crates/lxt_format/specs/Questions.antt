@@ -1,9 +1,9 @@
 -- Paper 01, "What can be asked": each question's answer, and what everything lent holds afterwards.
 -- "Every call judges the file first, except carrying on: it does checks 1 to 14, then 20 to 21."
-use Prim.Native.Nat.{ℕ, _+_, _*_, _-_}
-use mathlib.Core.Bool.{Bool, true, false, not, _&&_}
-use mathlib.Core.List.{List, [], _∷_, _++_}
-use lib.ListN.{length, take, drop, replicate}
+use Prim.Native.Nat.{ℕ, _*_, _-_}
+use mathlib.Core.Bool.{Bool}
+use mathlib.Core.List.{List, [], _++_}
+use lib.ListN.{length, drop, replicate}
 use lib.Dec.{ltb, leb, eqb}
 use Rattle.lxt_format.specs.Limits.{longestName}
 use Rattle.lxt_format.specs.Basics.{if_then_else_, _unless_, _orElse_, Answer, answer, lentAfter, any}

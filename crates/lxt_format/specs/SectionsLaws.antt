@@ -1,14 +1,14 @@
 -- Laws of the section list and of the bounds that refusals 1 to 9 give.
 use Prim.Native.Nat.{ℕ, zero, suc, _+_, _*_, _-_, _≤_, _<_}
-use mathlib.Core.Path.{_≡_, refl, sym, _∙_, ap}
-use mathlib.Core.Bool.{Bool, true, false, not, _&&_, _||_, false≢true}
+use mathlib.Core.Path.{_≡_, refl}
+use mathlib.Core.Bool.{true, false, not, false≢true}
 use mathlib.Core.List.{List, [], _∷_}
 use lib.ListN.{length}
-use lib.Dec.{ltb, leb, eqb}
+use lib.Dec.{ltb, eqb}
 use native.Mathlib.Omega.{arith}
-use native.Mathlib.Decide.{ℕ-discrete, decLe}
-use borrow.Author.Tests.{eq-eqb, ne-eqb, lt-ltb, le-ltb, leb-true, eqb-false}
-use Rattle.lxt_format.specs.Basics.{if_then_else_, range, all}
+use native.Mathlib.Decide.{decLe}
+use borrow.Author.Tests.{eq-eqb, ne-eqb, lt-ltb, le-ltb, leb-true}
+use Rattle.lxt_format.specs.Basics.{range, all}
 use Rattle.lxt_format.specs.BasicsLaws.{and-both, all-range, or-either, on-test}
 use Rattle.lxt_format.specs.Bytes.{byteAt, u32At}
 use Rattle.lxt_format.specs.Sections.{Item, Listing, unlisted, listFrom, listingOf, sectionOf, present, endOf, changesFrom, facilityCount, timeCount, inside, sectionsPresent, bodySize, bodyInside, bodiesInside}

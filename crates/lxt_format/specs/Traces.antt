@@ -1,6 +1,6 @@
 -- The traces that the examples are computed on.
-use Prim.Native.Nat.{ℕ, suc, _*_, _/_, _%_, _^_}
-use mathlib.Core.List.{List, [], _∷_, _++_}
+use Prim.Native.Nat.{ℕ}
+use mathlib.Core.List.{List, [], _++_}
 use Rattle.lxt_format.specs.Changes.{digits}
 
 -- k bytes, written as one number

@@ -1,8 +1,8 @@
 -- The unpacking of symbols, one fact over the symbol's size of b bits, of which a byte holds p: b is 1, 2 or 4, and p is 8, 4 or 2.
 use Prim.Native.Nat.{ℕ, zero, suc, _+_, _*_, _-_, _≤_, _<_, _/_, _%_, _^_}
-use mathlib.Core.Path.{_≡_, refl, sym, _∙_, ap}
+use mathlib.Core.Path.{_≡_, refl, _∙_, ap}
 use mathlib.Core.List.{List, [], _∷_, _++_}
-use lib.ListN.{length, getD, take, length-append, length-take, List·getD-append}
+use lib.ListN.{length, getD, length-append, length-take, List·getD-append}
 use lib.Seq.{getD-append-add, getD-take}
 use native.Mathlib.Omega.{arith}
 use native.Mathlib.Numerals.{add-one}

@@ -1,8 +1,7 @@
 -- Paper 01, "One change and its chain": the values of changes.
-use Prim.Native.Nat.{ℕ, _+_, _-_, max}
-use mathlib.Core.Bool.{Bool, true, false}
+use Prim.Native.Nat.{ℕ, _-_, max}
 use mathlib.Core.List.{List, [], _∷_, map}
-use lib.ListN.{length, getD, replicate}
+use lib.ListN.{getD, replicate}
 use lib.Seq.{slice}
 use lib.Dec.{leb, eqb}
 use lib.Ieee.{Float}

@@ -1,17 +1,16 @@
 -- A law for each way out of the questions on a facility.
-use Prim.Native.Nat.{ℕ, _+_, _≤_, _<_}
-use mathlib.Core.Path.{_≡_, refl, sym, _∙_, ap}
-use mathlib.Core.Bool.{Bool, true, false}
+use Prim.Native.Nat.{ℕ, _≤_, _<_}
+use mathlib.Core.Path.{_≡_, refl, sym, _∙_}
+use mathlib.Core.Bool.{true, false}
 use mathlib.Core.List.{List}
 use lib.Dec.{ltb}
-use native.Mathlib.Omega.{arith}
 use borrow.Author.Tests.{lt-ltb, le-ltb, ltb-true, eqb-false}
-use Rattle.lxt_format.specs.Basics.{if_then_else_, _unless_, _orElse_, Answer, given, refused, answer}
+use Rattle.lxt_format.specs.Basics.{_unless_, given, refused}
 use Rattle.lxt_format.specs.BasicsLaws.{stops, neither, kept, answer-given, answer-refused}
 use Rattle.lxt_format.specs.Sections.{facilityCount}
 use Rattle.lxt_format.specs.Geometry.{isAlias, geometryAllowed, rootOf, ownFacts, factsOf}
-use Rattle.lxt_format.specs.Judge.{tablesRefusal, fileRefusal}
-use Rattle.lxt_format.specs.JudgeLaws.{Accepted, accepted, Passed, passed}
+use Rattle.lxt_format.specs.Judge.{fileRefusal}
+use Rattle.lxt_format.specs.JudgeLaws.{accepted, passed}
 use Rattle.lxt_format.specs.Questions.{facilityRefusal, factsAsked, rootAsked}
 use Rattle.lxt_format.specs.declared.Facts.{Facts}
 use Rattle.lxt_tables.specs.Stage.{Geometry, tablesOf}

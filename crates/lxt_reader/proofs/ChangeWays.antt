@@ -1,27 +1,25 @@
 -- A law for each way out of the questions on changes.
-use Prim.Native.Nat.{ℕ, _+_, _≤_, _<_}
-use mathlib.Core.Path.{_≡_, refl, sym, _∙_, ap}
-use mathlib.Core.Bool.{Bool, true, false, _||_, false≢true}
-use mathlib.Core.List.{List, [], _∷_, map}
+use Prim.Native.Nat.{ℕ, _≤_, _<_}
+use mathlib.Core.Path.{_≡_, refl, sym, _∙_}
+use mathlib.Core.Bool.{Bool, true, false, _||_}
+use mathlib.Core.List.{List, [], _∷_}
 use lib.ListN.{length}
 use lib.Dec.{eqb}
 use native.Mathlib.Omega.{arith}
-use borrow.Author.Tests.{eq-eqb, ne-eqb, eqb-true, eqb-false}
-use Rattle.lxt_format.specs.Basics.{if_then_else_, _unless_, _orElse_, Answer, given, refused, answer, any, firstFault}
-use Rattle.lxt_format.specs.BasicsLaws.{stops, neither, kept, on-test, answer-given, answer-refused}
-use Rattle.lxt_format.specs.Sections.{facilityCount, changesFrom, endOf}
-use Rattle.lxt_format.specs.Geometry.{isAlias, rootOf, syncOf, ownFacts, factsOf}
-use Rattle.lxt_format.specs.Changes.{dataAt, previousOf, changeEnd, faultAt, chainOf, chainFault}
-use Rattle.lxt_format.specs.ChangesLaws.{previous-lt, chain-none, chain-more, Sound, sound}
-use Rattle.lxt_format.specs.Judge.{faultFrom, fileRefusal}
+use borrow.Author.Tests.{eq-eqb, ne-eqb, eqb-false}
+use Rattle.lxt_format.specs.Basics.{given, refused, any}
+use Rattle.lxt_format.specs.BasicsLaws.{stops, answer-given, answer-refused}
+use Rattle.lxt_format.specs.Sections.{changesFrom, endOf}
+use Rattle.lxt_format.specs.Geometry.{rootOf, syncOf, ownFacts, factsOf}
+use Rattle.lxt_format.specs.Changes.{dataAt, previousOf, changeEnd, chainOf, chainFault}
+use Rattle.lxt_format.specs.ChangesLaws.{previous-lt, chain-none, chain-more, sound}
+use Rattle.lxt_format.specs.Judge.{faultFrom}
 use Rattle.lxt_format.specs.JudgeLaws.{accepted, root-sound}
 use Rattle.lxt_format.specs.Questions.{facilityRefusal, changeRefusal, chainAsked, beforeAsked}
 use Rattle.lxt_format.specs.declared.Facts.{Facts}
-use Rattle.lxt_tables.specs.Stage.{Geometry, tablesOf}
 use Rattle.lxt_tables.specs.Asked.{Sync}
-use Rattle.lxt_tables.specs.declared.Tables.{Tables}
-use Rattle.lxt_tables.proofs.TablesLaws.{Known, known, root-in, root-plain}
-use Rattle.lxt_values.specs.Times.{Readable, no-change, change}
+use Rattle.lxt_tables.proofs.TablesLaws.{Known, root-in, root-plain}
+use Rattle.lxt_values.specs.Times.{Readable, change}
 use Rattle.lxt_values.specs.TimesLaws.{chain-readable, change-sound}
 use Rattle.lxt_reader.specs.Asking.{Answers}
 use Rattle.lxt_reader.specs.Changing.{Followed, Chained, Looked}

@@ -1,29 +1,24 @@
 -- A law for each way out of judging.
-use Prim.Native.Nat.{ℕ, _+_, _≤_, _<_}
-use mathlib.Core.Path.{_≡_, refl, sym, _∙_, ap}
-use mathlib.Core.Bool.{Bool, true, false, _&&_}
+use Prim.Native.Nat.{ℕ, _+_, _<_}
+use mathlib.Core.Path.{_≡_, sym, _∙_}
+use mathlib.Core.Bool.{true, _&&_}
 use mathlib.Core.List.{List}
-use lib.ListN.{length}
 use lib.IntN.{ℤ, pos, negsuc}
-use lib.Dec.{leb, lit<}
+use lib.Dec.{lit<}
 use native.Mathlib.Omega.{arith}
 use mir.Syntax.{w8}
 use mir.Val.{SFits, toZ, ofZ}
 use mir.ValLaws.{toZ-ofZ}
-use borrow.Author.Tests.{ne-eqb, leb-true}
-use Rattle.lxt_format.specs.Basics.{if_then_else_, _unless_, _orElse_, Answer, given, refused, answer}
+use borrow.Author.Tests.{leb-true}
+use Rattle.lxt_format.specs.Basics.{given, refused}
 use Rattle.lxt_format.specs.Bytes.{byteAt, signed}
-use Rattle.lxt_format.specs.BasicsLaws.{on-test, and-both, stops, answer-given, answer-refused}
-use Rattle.lxt_format.specs.Sections.{sectionOf, present, endOf, timescaleAllowed, timescaleOf}
-use Rattle.lxt_format.specs.Judge.{tablesRefusal, chainsRefusal, changesApart, fileRefusal, summaryOf, judge}
+use Rattle.lxt_format.specs.BasicsLaws.{on-test, and-both, answer-given, answer-refused}
+use Rattle.lxt_format.specs.Sections.{sectionOf, present, timescaleAllowed, timescaleOf}
+use Rattle.lxt_format.specs.Judge.{fileRefusal, summaryOf, judge}
 use Rattle.lxt_format.specs.JudgeLaws.{accepted}
-use Rattle.lxt_format.specs.declared.Summary.{Summary}
 use Rattle.lxt_tables.specs.Stage.{tablesOf}
 use Rattle.lxt_tables.specs.declared.Tables.{Tables}
-use Rattle.lxt_tables.proofs.TablesLaws.{Known, known, refusal-is}
-use Rattle.lxt_changes.specs.Faults.{LastZero}
-use Rattle.lxt_chains.specs.Reading.{Ready}
-use Rattle.lxt_chains.specs.declared.chains.Chains.{Chains}
+use Rattle.lxt_tables.proofs.TablesLaws.{known, refusal-is}
 
 -- a timescale from -21 to 2 fits 8 bits
 allowed-fits : (z : ℤ) → timescaleAllowed z ≡ true → SFits w8 z

@@ -1,22 +1,18 @@
 -- A law for each way out of the questions on a name.
 use Prim.Native.Nat.{ℕ, _+_, _≤_, _<_}
-use mathlib.Core.Path.{_≡_, refl, sym, _∙_, ap}
-use mathlib.Core.Bool.{Bool, true, false}
+use mathlib.Core.Path.{_≡_, refl, sym, _∙_}
 use mathlib.Core.List.{List, []}
 use lib.ListN.{length}
 use lib.Seq.{slice}
 use lib.Dec.{leb, lit<}
 use native.Mathlib.Omega.{arith}
 use borrow.Author.Tests.{le-leb, lt-leb, leb-true, eqb-false}
-use Rattle.lxt_format.specs.Basics.{if_then_else_, _unless_, _orElse_, Answer, given, refused, answer, lentAfter}
+use Rattle.lxt_format.specs.Basics.{_unless_, given, refused, lentAfter}
 use Rattle.lxt_format.specs.BasicsLaws.{stops, neither, kept, answer-given, answer-refused}
 use Rattle.lxt_format.specs.Bytes.{u32At}
-use Rattle.lxt_format.specs.Sections.{sectionOf, endOf, facilityCount}
-use Rattle.lxt_format.specs.Names.{namesIn, withinMemory, nameTable, namesAllowed, nameOf}
+use Rattle.lxt_format.specs.Names.{nameTable, namesAllowed, nameOf}
 use Rattle.lxt_format.specs.NamesLaws.{names-short}
 use Rattle.lxt_format.specs.Questions.{facilityRefusal, nameRefusal, nameAsked, nameBuffer, namePart, holdingName}
-use Rattle.lxt_tables.specs.declared.Tables.{Tables}
-use Rattle.lxt_tables.proofs.TablesLaws.{Known}
 use Rattle.lxt_values.specs.Names as N
 use Rattle.lxt_values.specs.Names.{nameAt, name-is}
 use Rattle.lxt_reader.specs.Asking.{Answers, Named}

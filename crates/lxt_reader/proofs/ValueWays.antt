@@ -1,34 +1,34 @@
 -- A law for each way out of the questions on values.
-use Prim.Native.Nat.{ℕ, zero, suc, _+_, _-_, _≤_, _<_}
-use mathlib.Core.Path.{_≡_, refl, sym, _∙_, ap}
+use Prim.Native.Nat.{ℕ, zero, suc, _+_, _≤_, _<_}
+use mathlib.Core.Path.{_≡_, refl, sym, _∙_}
 use mathlib.Core.Bool.{Bool, true, false, not, _&&_}
-use mathlib.Core.List.{List, [], _∷_, _++_, map}
-use lib.ListN.{length, drop, replicate, length-map, length-replicate}
+use mathlib.Core.List.{List, [], _++_}
+use lib.ListN.{length, drop, replicate, length-replicate}
 use lib.Seq.{slice}
 use lib.Ieee.{Float}
 use lib.Dec.{ltb, leb, eqb, lit<}
 use native.Mathlib.Omega.{arith}
 use native.Mathlib.Decide.{ℕ-discrete}
 use borrow.Author.Tests.{eq-eqb, ne-eqb, le-leb, lt-leb, leb-true, ltb-true, eqb-false}
-use Rattle.lxt_format.specs.Basics.{if_then_else_, _unless_, _orElse_, Answer, given, refused, answer, lentAfter, range, any, select}
+use Rattle.lxt_format.specs.Basics.{_unless_, Answer, given, refused, range, any, select}
 use Rattle.lxt_format.specs.BasicsLaws.{on-test, and-both, neither, kept, stops}
 use Rattle.lxt_format.specs.Bytes.{byteAt, toZero}
 use Rattle.lxt_format.specs.Sections.{sectionOf, present, facilityCount, changesFrom, endOf, initialOf}
-use Rattle.lxt_format.specs.Geometry.{isAlias, rootOf, rootsOf, syncOf, ownFacts, factsOf}
+use Rattle.lxt_format.specs.Geometry.{isAlias, rootOf, rootsOf, ownFacts, factsOf}
 use Rattle.lxt_format.specs.Times.{timeOf}
 use Rattle.lxt_format.specs.Reals.{byteOrder, bitsInOrder, realBits, isReal, hasReal}
 use Rattle.lxt_format.specs.Reals as R
-use Rattle.lxt_format.specs.Changes.{commandOf, deltaSize, dataAt, symbolSize, packedSize, codesAt, changeEnd, dataSize, chainOf}
+use Rattle.lxt_format.specs.Changes.{commandOf, deltaSize, dataAt, symbolSize, changeEnd, dataSize, chainOf}
 use Rattle.lxt_format.specs.ChangesLaws.{Sound}
-use Rattle.lxt_format.specs.Values.{Content, bits, real, text, notDriven, symbolOf, symbolsAt, contentBy, contentOf, latestAt, changeAt, initialBy, contentAt}
-use Rattle.lxt_format.specs.Answers.{Shown, bitsOf, realOf, textOf, nothing, shown, valueSays, timedSays}
+use Rattle.lxt_format.specs.Values.{Content, bits, symbolOf, symbolsAt, contentBy, contentOf, latestAt, changeAt, initialBy, contentAt}
+use Rattle.lxt_format.specs.Answers.{Shown, bitsOf, realOf, textOf, nothing, shown, timedSays}
 use Rattle.lxt_format.specs.Questions.{written, holdingBits, facilityRefusal, changeRefusal, readingRefusal, changeAsked, changeBuffer, valueRefusal, valueAsked, valueBuffer, chainAsked}
 use Rattle.lxt_format.specs.Judge.{fileRefusal, faultFrom}
 use Rattle.lxt_format.specs.declared.TimedValue.{TimedValue}
 use Rattle.lxt_format.specs.declared.Kind.{Kind}
 use Rattle.lxt_format.specs.declared.Kind.the-variants.{Bits, Integer, Real, Text}
 use Rattle.lxt_changes.specs.Faults.{symbolic}
-use Rattle.lxt_values.specs.Symbols.{Drawn, Packed}
+use Rattle.lxt_values.specs.Symbols.{Drawn}
 use Rattle.lxt_values.proofs.SymbolLaws.{Sizes, by-1, by-2, by-4, symbols-length}
 use Rattle.lxt_values.specs.SymbolsLaws.{sound-drawn}
 use Rattle.lxt_values.specs.Reals.{Places, order-places}

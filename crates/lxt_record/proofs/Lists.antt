@@ -3,7 +3,7 @@
 --     numbers-at, offsets-at, pairs-at     what stands at an index
 -- Assumes nothing.
 use mathlib.Core.Path.{_≡_, refl, sym, _∙_, ap, subst}
-use Prim.Native.Nat.{ℕ, zero, suc, _+_, _-_, _<_, _≤_, _^_, _*_}
+use Prim.Native.Nat.{ℕ, zero, suc, _+_, _<_, _≤_, _^_, _*_}
 use native.Mathlib.Nat.{le-of-lt, not-suc-le-zero, le-of-suc-le-suc, add-sub-of-le}
 use native.Mathlib.Numerals.{add-one}
 use native.Mathlib.Omega.{arith}

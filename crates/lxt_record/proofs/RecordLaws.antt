@@ -1,7 +1,7 @@
 -- What `start` and `carry_on` need of lists: a record's first `room` pairs, taken apart into numbers and offsets and put together again, give what the whole record gives. No file has more than 4,096
 -- facilities, so the pairs past `room` are never used.
 -- Assumes nothing.
-use Prim.Native.Nat.{ℕ, zero, suc, _+_, _-_, _≤_, _<_, min}
+use Prim.Native.Nat.{ℕ, zero, suc, _+_, _≤_, _<_, min}
 use native.Mathlib.Omega.{arith}
 use native.Mathlib.Decide.{decLe}
 use mathlib.Core.Path.{_≡_, refl, sym, _∙_, ap}

@@ -1,12 +1,11 @@
 -- A law for each way out of the functions on the frame.
-use Prim.Native.Nat.{ℕ, _-_, _≤_, _<_}
-use mathlib.Core.Path.{_≡_, refl, sym, _∙_}
-use mathlib.Core.Bool.{Bool, true, false, not, _&&_}
+use Prim.Native.Nat.{ℕ, _≤_}
+use mathlib.Core.Path.{_≡_, sym, _∙_}
+use mathlib.Core.Bool.{Bool, true, false, _&&_}
 use mathlib.Core.List.{List}
 use lib.ListN.{length}
 use lib.Dec.{leb, eqb}
 use borrow.Author.Tests.{leb-true, not-true, not-false}
-use Rattle.lxt_format.specs.Basics.{if_then_else_, _unless_, _orElse_}
 use Rattle.lxt_format.specs.BasicsLaws.{and-both}
 use Rattle.lxt_format.specs.Bytes.{byteAt, u16At}
 use Rattle.lxt_format.specs.Sections.{lengthAllowed, startsRight, endsRight}

@@ -1,17 +1,15 @@
 -- The table of counting values while the section list is read, and a law for each way out of the loop.
 use Prim.Native.Nat.{ℕ, zero, suc, _+_, _-_, _≤_, _<_}
 use mathlib.Core.Path.{_≡_, refl, sym, _∙_, ap}
-use mathlib.Core.Bool.{Bool, true, false}
+use mathlib.Core.Bool.{true, false}
 use mathlib.Core.List.{List, [], _∷_, map}
-use lib.ListN.{length, getD, set, replicate}
+use lib.ListN.{length, set, replicate}
 use lib.Seq.{set-out}
-use lib.Dec.{eqb}
 use native.Mathlib.Omega.{arith}
-use native.Mathlib.Decide.{decLe, ℕ-discrete}
 use borrow.Author.Tests.{eq-eqb, ne-eqb}
-use Rattle.lxt_format.specs.Basics.{if_then_else_, range}
+use Rattle.lxt_format.specs.Basics.{range}
 use Rattle.lxt_format.specs.Bytes.{byteAt, u32At}
-use Rattle.lxt_format.specs.Sections.{Item, unlisted, listFrom, listingOf, valueIn}
+use Rattle.lxt_format.specs.Sections.{Item, unlisted, listingOf, valueIn}
 use Rattle.lxt_format.specs.SectionsLaws.{listAt, listing-at, list-below, list-end, list-cut, list-next}
 use Rattle.lxt_sections.specs.Stage.{tableOf, listedOf}
 use Rattle.lxt_sections.specs.declared.Listing.{Listing}

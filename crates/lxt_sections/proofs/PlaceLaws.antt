@@ -1,17 +1,17 @@
 -- A law for each way out of the functions on the places of the sections.
-use Prim.Native.Nat.{ℕ, zero, suc, _+_, _*_, _≤_, _<_}
-use mathlib.Core.Path.{_≡_, refl, sym, _∙_, ap}
-use mathlib.Core.Bool.{Bool, true, false, not, _&&_, _||_, and-false, and-true, false≢true}
-use mathlib.Core.List.{List, [], _∷_}
+use Prim.Native.Nat.{ℕ, _+_, _*_, _≤_, _<_}
+use mathlib.Core.Path.{_≡_, refl, sym, _∙_}
+use mathlib.Core.Bool.{Bool, true, false, not, _&&_, _||_, and-false, and-true}
+use mathlib.Core.List.{List, []}
 use lib.ListN.{length, getD}
-use lib.Dec.{leb, eqb, lit<}
+use lib.Dec.{leb, eqb}
 use native.Mathlib.Omega.{arith}
 use native.Mathlib.Decide.{decLe}
-use borrow.Author.Tests.{eq-eqb, ne-eqb, le-leb, lt-leb, leb-true, eqb-false, not-true, not-false}
-use Rattle.lxt_format.specs.Basics.{if_then_else_, _unless_, _orElse_, range, all, any}
-use Rattle.lxt_format.specs.BasicsLaws.{and-both, on-test}
+use borrow.Author.Tests.{ne-eqb, le-leb, lt-leb, leb-true, eqb-false, not-true}
+use Rattle.lxt_format.specs.Basics.{range, all, any}
+use Rattle.lxt_format.specs.BasicsLaws.{and-both}
 use Rattle.lxt_format.specs.Bytes.{u32At}
-use Rattle.lxt_format.specs.Sections.{listingOf, sectionOf, valueIn, present, endOf, changesFrom, facilityCount, timeCount, nothingCompressed, sectionsPresent, inside, bodySize, bodyInside, bodiesInside, countAllowed}
+use Rattle.lxt_format.specs.Sections.{listingOf, sectionOf, present, endOf, changesFrom, facilityCount, timeCount, nothingCompressed, sectionsPresent, inside, bodySize, bodyInside, bodiesInside, countAllowed}
 use Rattle.lxt_format.specs.SectionsLaws.{end-inside}
 use Rattle.lxt_sections.specs.Stage.{frameRefusal, tableOf, listedOf, placesOf, Ready, bodyIn, allInside, countedRefusal, sectionsRefusal, refusedWith, found, sectionsOf}
 use Rattle.lxt_sections.specs.declared.Listing.{Listing}

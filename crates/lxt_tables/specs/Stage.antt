@@ -1,8 +1,7 @@
 -- What the functions of this crate answer and ask, by the definitions of the format.
 use Prim.Native.Nat.{ℕ, _+_, _*_, _≤_}
 use mathlib.Core.Path.{_≡_}
-use mathlib.Core.Bool.{Bool, true, false}
-use mathlib.Core.List.{List, [], _∷_}
+use mathlib.Core.List.{List, []}
 use lib.ListN.{length, replicate}
 use lib.IntN.{pos}
 use lib.Dec.{eqb}

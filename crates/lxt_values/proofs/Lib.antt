@@ -4,3 +4,4 @@ pub mod TextLaws
 pub mod TimeLaws
 pub mod CopyLaws
 pub mod NameLaws
+pub mod EntryLaws

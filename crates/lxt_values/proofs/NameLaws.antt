@@ -17,14 +17,9 @@ use Rattle.lxt_format.specs.Bytes.{u16At, toZero}
 use Rattle.lxt_format.specs.BytesLaws.{u16-bytes}
 use Rattle.lxt_format.specs.Names.{named, namesIn, withinMemory, nameAmong}
 use Rattle.lxt_format.specs.Questions.{holdingName}
-use Rattle.lxt_values.specs.Names.{nameAt, Named}
+use Rattle.lxt_values.specs.Names.{nameAt, Named, accepted, coming, Coming, Read}
 
 -- ---- the next name of an allowed list
-
--- no rule is broken
-unfoldable pub accepted : Option (List (List ℕ)) → Bool
-accepted none = false
-accepted (some names) = true
 
 -- names within the memory break no rule
 within-accepted : (M : ℕ) (o : Option (List (List ℕ))) → withinMemory M o ≡ true → accepted o ≡ true
@@ -131,113 +126,140 @@ uncut s T a y t h =
     let yl : y ≤ length (drop a (take T s)) = omega (arith, length-drop a (take T s)) in
     sym (ap (λ (l : List ℕ). take y (drop a l)) (sym (take-append-drop T s)) ∙ ap (take y) (drop-append-le a (take T s) (drop T s) al) ∙ take-append-le y (drop a (take T s)) (drop T s) yl)
 
+-- ---- one name after the other
+
+-- the first of accepted names, and the others
+among-first : (name : List ℕ) (o : Option (List (List ℕ))) → accepted o ≡ true → name ≡ nameAmong 0 (named name o)
+unfolding accepted
+among-first name none e = absurd (false≢true e)
+among-first name (some names) e = refl
+
+among-others : (name : List ℕ) (o : Option (List (List ℕ))) (j : ℕ) → accepted o ≡ true → nameAmong j o ≡ nameAmong (suc j) (named name o)
+unfolding accepted
+among-others name none j e = absurd (false≢true e)
+among-others name (some names) j e = refl
+
+-- all names of an allowed table are still to come
+pub all-coming : (s : List ℕ) (at T n M f : ℕ) (d : List ℕ) → Named s at T n M f → 1023 ≤ length d → Coming s T n at 0 d
+all-coming s at T n M f d k room = record {
+  inside = k .inside;
+  inT = k .start;
+  room = room;
+  small = omega arith;
+  allowed = within-accepted M (namesIn n (slice at T s) []) (k .allowed);
+}
+
+module _ (s : List ℕ) (T left p before : ℕ) (d : List ℕ) (h : Coming s T left p before d) (more : 0 < left) where
+  next-here : Step s T left p (take before d)
+  next-here = step s T (h .inside) left p (take before d) more (h .inT) (h .allowed)
+
+  next-prefix : u16At s p ≤ before
+  next-prefix = omega (arith, next-here .prefix, length-take before d)
+
+  pub next-bounds : (p + 2 ≤ T) × (u16At s p ≤ before) × (p + 2 + suffixAt s T p < T) × (u16At s p + suffixAt s T p ≤ 1023)
+  next-bounds = (next-here .two, next-prefix, next-here .ended, next-here .small)
+
+  pub next-read : (k y : ℕ) (d′ : List ℕ) → k ≡ u16At s p → y ≡ suffixAt s T p → d′ ≡ paste d k (drop (p + 2) s) y
+      → Read s T left p before d (left - 1) (p + 2 + y + 1) (k + y) d′
+  next-read k y d′ ek ey ed =
+      let st = next-here in
+      let ended = st .ended in
+      let small = st .small in
+      let pre = next-prefix in
+      let room = h .room in
+      let low = h .small in
+      let t = h .inside in
+      let bytes : List ℕ = drop (p + 2) s in
+      let in-d : k + y ≤ length d = omega arith in
+      let k-d : k ≤ length d = omega arith in
+      let k-len : k ≤ before = omega arith in
+      let in-s : y ≤ length bytes = omega (arith, length-drop (p + 2) s) in
+      let in-T : p + 2 + y ≤ T = omega arith in
+      let held : take (k + y) d′ ≡ nameHere s T p (take before d) =
+      rw ed (take-paste d k bytes y k-d in-s ∙ rw (← take-take k before d k-len, ← uncut s T (p + 2) y t in-T, ek, ey)) in
+      let after : p + 2 + y + 1 ≡ p + 2 + suc (suffixAt s T p) = omega arith in
+      let long : length d′ ≡ length d = rw ed (length-paste d k bytes y in-d in-s) in
+      let j : ℕ = 1023 - (k + y) in
+      let ej : k + y + j ≡ 1023 = omega arith in
+      record {
+        rest = record {
+          inside = h .inside;
+          inT = omega arith;
+          room = omega arith;
+          small = omega arith;
+          allowed = rw (after, held) (st .rest);
+        };
+        count = omega arith;
+        same-length = long;
+        tail = ap (λ (x : ℕ). drop x d′) (sym ej) ∙ sym (drop-drop j (k + y) d′) ∙ ap (drop j) (rw ed (drop-paste d k bytes y k-d in-s)) ∙ drop-drop j (k + y) d ∙ ap (λ (x : ℕ). drop x d) ej;
+        name = rw (held, st .list) (among-first (nameHere s T p (take before d)) _ (st .rest));
+        others = λ j. rw (after, held, st .list) (among-others (nameHere s T p (take before d)) _ j (st .rest));
+      }
+
 -- ---- the loop
 
--- `left` names are still to be read, the wanted one the last of them; the buffer d holds the name before as its first len bytes
-pub record Held (s : List ℕ) (at T n M f : ℕ) (d₀ d : List ℕ) (p len left : ℕ) : Type 0 where
-  pub asked : Named s at T n M f
-  pub room : 1023 ≤ length d₀
-  pub few : left ≤ f + 1
-  pub inT : p ≤ T
+-- `wanted` of the names that follow are still to be read, the last of them the name of facility f; the buffer d holds the name before
+pub record Held (s : List ℕ) (at T n f : ℕ) (d₀ d : List ℕ) (left p before wanted : ℕ) : Type 0 where
+  pub rest : Coming s T left p before d
+  pub few : wanted ≤ left
   pub long : length d ≡ length d₀
   pub tail : drop 1023 d ≡ drop 1023 d₀
-  pub small : len ≤ 1023
-  pub allowed : accepted (namesIn (left + (n - (f + 1))) (slice p T s) (take len d)) ≡ true
-  pub name : chosen left (take len d) (namesIn (left + (n - (f + 1))) (slice p T s) (take len d)) ≡ nameAt s at T n f
+  pub name : chosen wanted (take before d) (coming s T left p before d) ≡ nameAt s at T n f
 
 -- no name is read yet
-pub none-read : (s : List ℕ) (at T n M f : ℕ) (d : List ℕ) → Named s at T n M f → 1023 ≤ length d → Held s at T n M f d d at 0 (f + 1)
+pub none-read : (s : List ℕ) (at T n M f : ℕ) (d : List ℕ) → Named s at T n M f → 1023 ≤ length d → Held s at T n f d d n at 0 (f + 1)
 unfolding nameAt
 none-read s at T n M f d k room =
     let l = k .number in
-    let r : f + 1 + (n - (f + 1)) ≡ n = omega arith in
-    record {
-      asked = k;
-      room = room;
-      few = omega arith;
-      inT = k .start;
-      long = refl;
-      tail = refl;
-      small = omega arith;
-      allowed = rw r (within-accepted M (namesIn n (slice at T s) []) (k .allowed));
-      name = rw (r, add-one);
+    record { rest = all-coming s at T n M f d k room; few = omega arith; long = refl; tail = refl; name = rw add-one }
+
+module _ (s : List ℕ) (at T n f : ℕ) (d₀ d : List ℕ) (left p before wanted : ℕ) (h : Held s at T n f d₀ d left p before wanted) where
+  module _ (more : 0 < wanted) where
+    pub still-coming : Coming s T left p before d × (0 < left)
+    still-coming = (h .rest, omega (arith, h .few))
+
+    -- one name on, the wanted one is one nearer
+    nearer : (left′ p′ size : ℕ) (d′ : List ℕ) → Read s T left p before d left′ p′ size d′ → (w : ℕ) → 0 < w
+        → chosen (w - 1) (take size d′) (coming s T left′ p′ size d′) ≡ chosen w (take before d) (coming s T left p before d)
+    nearer left′ p′ size d′ r zero k = absurd (omega arith)
+    nearer left′ p′ size d′ r (suc zero) k = r .name
+    nearer left′ p′ size d′ r (suc (suc j)) k = let e : suc (suc j) - 1 ≡ suc j = omega arith in rw e (r .others j)
+
+    pub one-read : (left′ p′ size : ℕ) (d′ : List ℕ) → Read s T left p before d left′ p′ size d′ → Held s at T n f d₀ d′ left′ p′ size (wanted - 1)
+    one-read left′ p′ size d′ r = record {
+      rest = r .rest;
+      few = omega (arith, h .few, r .count);
+      long = r .same-length ∙ h .long;
+      tail = r .tail ∙ h .tail;
+      name = nearer left′ p′ size d′ r wanted more ∙ h .name;
     }
 
-module _ (s : List ℕ) (at T n M f : ℕ) (d₀ d : List ℕ) (p len left : ℕ) (h : Held s at T n M f d₀ d p len left) where
-  module _ (more : 0 < left) where
-    -- what is known of the next name
-    here : Step s T (left + (n - (f + 1))) p (take len d)
-    here = step s T (h .asked .inside) (left + (n - (f + 1))) p (take len d) (omega arith) (h .inT) (h .allowed)
-
-    -- the prefix is no longer than what the buffer holds
-    prefix-held : u16At s p ≤ len
-    prefix-held = omega (arith, here .prefix, length-take len d)
-
-    -- the bounds that the code's indices and sums want
-    pub bounds : (p + 2 ≤ T) × (u16At s p ≤ len) × (p + 2 + suffixAt s T p < T) × (u16At s p + suffixAt s T p ≤ 1023)
-    bounds = (here .two, prefix-held, here .ended, here .small)
-
-    -- the next name is read: a prefix of k bytes stays, and y bytes of the file follow it
-    pub one-read : (k y : ℕ) (d′ : List ℕ) → k ≡ u16At s p → y ≡ suffixAt s T p → d′ ≡ paste d k (drop (p + 2) s) y
-        → Held s at T n M f d₀ d′ (p + 2 + y + 1) (k + y) (left - 1)
-    one-read k y d′ ek ey ed =
-        let st = here in
-        let ended = st .ended in
-        let small = st .small in
-        let pre = prefix-held in
-        let room = h .room in
-        let long = h .long in
-        let t = h .asked .inside in
-        let bytes : List ℕ = drop (p + 2) s in
-        let in-d : k + y ≤ length d = omega arith in
-        let k-d : k ≤ length d = omega arith in
-        let k-len : k ≤ len = omega arith in
-        let in-s : y ≤ length bytes = omega (arith, length-drop (p + 2) s) in
-        let in-T : p + 2 + y ≤ T = omega arith in
-        let held : take (k + y) d′ ≡ nameHere s T p (take len d) =
-        rw ed (take-paste d k bytes y k-d in-s ∙ rw (← take-take k len d k-len, ← uncut s T (p + 2) y t in-T, ek, ey)) in
-        let count : left - 1 + (n - (f + 1)) ≡ left + (n - (f + 1)) - 1 = omega arith in
-        let after : p + 2 + y + 1 ≡ p + 2 + suc (suffixAt s T p) = omega arith in
-        let j : ℕ = 1023 - (k + y) in
-        let ej : k + y + j ≡ 1023 = omega arith in
-        record {
-          asked = h .asked;
-          room = h .room;
-          few = (let l = h .few in omega arith);
-          inT = omega arith;
-          long = rw ed (length-paste d k bytes y in-d in-s ∙ h .long);
-          tail = ap (λ (x : ℕ). drop x d′) (sym ej) ∙ sym (drop-drop j (k + y) d′) ∙ ap (drop j) (rw ed (drop-paste d k bytes y k-d in-s)) ∙ drop-drop j (k + y) d ∙ ap (λ (x : ℕ). drop x d) ej ∙ h .tail;
-          small = omega arith;
-          allowed = rw (count, after, held) (st .rest);
-          name = rw (count, after, held) (chosen-next left (take len d) (nameHere s T p (take len d)) _ more (st .rest) ∙ ap (chosen left (take len d)) (sym (st .list)) ∙ h .name);
-        }
-
-  module _ (done : left ≤ 0) where
+  module _ (done : wanted ≤ 0) where
     -- the buffer holds the wanted name
-    named-held : take len d ≡ nameAt s at T n f
-    named-held = let e : left ≡ 0 = omega arith in rw e at (h .name)
+    named-held : take before d ≡ nameAt s at T n f
+    named-held = let e : wanted ≡ 0 = omega arith in rw e at (h .name)
 
     -- the wanted name is read: its length
-    pub name-length : len ≡ length (nameAt s at T n f)
+    pub name-length : before ≡ length (nameAt s at T n f)
     name-length =
-        let small = h .small in
-        let room = h .room in
+        let small = h .rest .small in
+        let room = h .rest .room in
         let long = h .long in
-        let l : len ≤ length d = omega arith in
-        sym (length-take-le len d l) ∙ ap length named-held
+        let l : before ≤ length d = omega arith in
+        sym (length-take-le before d l) ∙ ap length named-held
 
     -- and the buffer, after the zeros
-    pub name-held : (d′ : List ℕ) → d′ ≡ paste d len (replicate (1023 - len) 0) (1023 - len) → d′ ≡ holdingName (nameAt s at T n f) d₀
+    pub name-held : (d′ : List ℕ) → d′ ≡ paste d before (replicate (1023 - before) 0) (1023 - before) → d′ ≡ holdingName (nameAt s at T n f) d₀
     unfolding holdingName
     name-held d′ e =
-        let k : ℕ = 1023 - len in
-        let small = h .small in
-        let room = h .room in
+        let k : ℕ = 1023 - before in
+        let small = h .rest .small in
+        let room = h .rest .room in
         let long = h .long in
-        let l : len ≤ length d = omega arith in
-        let ek : len + k ≡ 1023 = omega arith in
+        let l : before ≤ length d = omega arith in
+        let ek : before + k ≡ 1023 = omega arith in
         let all : take k (replicate {A = ℕ} k 0) ≡ replicate k 0 = take-all k (replicate k 0) (omega (arith, length-replicate {A = ℕ} k 0)) in
-        e ∙ append-assoc (take len d) (take k (replicate k 0)) (drop (len + k) d) ∙ rw (← named-held, length-take-le len d l, all, ek, h .tail)
+        e ∙ append-assoc (take before d) (take k (replicate k 0)) (drop (before + k) d) ∙ rw (← named-held, length-take-le before d l, all, ek, h .tail)
 
 -- ---- the part of the buffer that is the name
 

@@ -1,4 +1,5 @@
 // The values of changes, their times, and the expanded names.
+pub mod entries;
 pub mod names;
 pub mod reals;
 pub mod symbols;

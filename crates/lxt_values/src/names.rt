@@ -4,7 +4,7 @@ ghost use Prim.Native.Nat.{_+_, _-_, _≤_, _<_};
 ghost use lib.ListN.{length, drop, replicate};
 ghost use lib.Seq.{paste};
 ghost use Rattle.lxt_format.specs.Questions.{holdingName};
-ghost use Rattle.lxt_values.specs.Names.{Named, nameAt};
+ghost use Rattle.lxt_values.specs.Names.{Named, nameAt, Coming, Read};
 use crate::texts;
 use lxt_format::NameCursor;
 use lxt_sections::be16;
@@ -33,6 +33,31 @@ fn clear(names: &mut [u8], from: usize, to: usize)
     }
 }
 
+// What is left of a name table: how many names, where the next one starts, and the length of the name
+// before it, which a buffer holds.
+pub struct NamesLeft {
+    pub left: u32,
+    pub at: usize,
+    pub before: usize,
+}
+
+// Expands the next name in the buffer; its length stands in what is left after it.
+pub fn next(file: &[u8], end: usize, from: NamesLeft, names: &mut [u8]) -> NamesLeft
+    requires { ⌜ Coming (now file) end (from .left) (from .at) (from .before) (now names) × (0 < from .left) ⌝ }
+    ensures { λ r. ⌜ Read (now (file .entry)) end (from .left) (from .at) (from .before) (now (names .entry)) (r .left) (r .at) (r .before) (now (names .exit)) ⌝ }
+{
+    let at = from.at;
+    let prefix = be16(file, at) as usize;
+    let suffix = at + 2;
+    let count = texts::length(file, suffix, end);
+    copy_part(file, suffix, count, names, prefix);
+    NamesLeft {
+        left: from.left - 1,
+        at: suffix + count + 1,
+        before: prefix + count,
+    }
+}
+
 // The name of facility `f` of the `n` names from `at` up to `end`: its length. The buffer then holds
 // the name, zeros up to 1,023 bytes, and what stood after them.
 pub fn expand(
@@ -47,20 +72,18 @@ pub fn expand(
     requires { ⌜ Named (now file) at end n memory f × (1023 ≤ length (now names)) ⌝ }
     ensures { λ r. ⌜ (r ≡ length (nameAt (now (file .entry)) at end n f)) × (now (names .exit) ≡ holdingName (nameAt (now (file .entry)) at end n f) (now (names .entry))) ⌝ }
 {
-    let mut p = at;
-    let mut len: usize = 0;
-    let mut left = f + 1;
-    while 0 < left {
-        let prefix = be16(file, p) as usize;
-        let from = p + 2;
-        let count = texts::length(file, from, end);
-        copy_part(file, from, count, names, prefix);
-        len = prefix + count;
-        p = from + count + 1;
-        left -= 1;
+    let mut c = NamesLeft {
+        left: n,
+        at,
+        before: 0,
+    };
+    let mut wanted = f + 1;
+    while 0 < wanted {
+        c = next(file, end, c, names);
+        wanted -= 1;
     }
-    clear(names, len, NameCursor::LONGEST);
-    len
+    clear(names, c.before, NameCursor::LONGEST);
+    c.before
 }
 
 // The name itself: the first bytes of the lent buffer, which is written alike.

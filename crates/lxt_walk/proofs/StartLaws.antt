@@ -9,7 +9,7 @@ use lib.ListN.{length, getD, set, take, drop, replicate, length-set, length-repl
 use lib.Seq.{getD-set-same, getD-set-other, drop-set-lt, getD-take, length-take-le, ext-getD}
 use lib.Dec.{ltb, eqb}
 use borrow.Author.Tests.{eq-eqb, ne-eqb, le-leb, lt-leb, ltb-true, ltb-false, eqb-false}
-use Rattle.lxt_format.specs.Basics.{if_then_else_, Answer, given, refused, answer, range, any}
+use Rattle.lxt_format.specs.Basics.{if_then_else_, Answer, given, refused, range, any}
 use Rattle.lxt_format.specs.BasicsLaws.{or-either, or-none, stops, answer-given, answer-refused, length-range, range-upto, range-done}
 use Rattle.lxt_format.specs.Sections.{facilityCount}
 use Rattle.lxt_format.specs.Geometry.{rootOf, syncOf}
