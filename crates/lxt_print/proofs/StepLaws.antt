@@ -1,19 +1,24 @@
 -- Laws of the changes one after the other.
 use Prim.Native.Nat.{ℕ, zero, suc, _+_, _*_, _≤_, _<_}
 use native.Mathlib.Omega.{arith}
-use native.Mathlib.Decide.{decLe}
+use native.Mathlib.Decide.{decLe, ℕ-discrete}
 use mathlib.Core.Path.{_≡_, refl, sym, ap, _∙_}
-use mathlib.Core.Bool.{Bool, true, false}
+use mathlib.Core.Bool.{Bool, true, false, not}
 use mathlib.Core.List.{List, [], _∷_, _++_}
 use lib.ListN.{length, getD, set, drop, length-append}
-use lib.Seq.{getD-set-other}
-use lib.Dec.{leb}
-use borrow.Author.Tests.{leb-true}
-use Rattle.lxt_format.specs.BasicsLaws.{and-both}
+use lib.Seq.{getD-set-same, getD-set-other}
+use lib.Dec.{leb, eqb}
+use borrow.Author.Tests.{leb-true, eqb-true, eq-eqb, not-true, not-false}
+use Rattle.lxt_format.specs.Basics.{if_then_else_, any, joined}
+use Rattle.lxt_format.specs.BasicsLaws.{and-both, or-none, on-zero}
+use Rattle.lxt_format.specs.BytesLaws.{AreBytes}
 use Rattle.lxt_format.specs.Columns.{onto}
-use Rattle.lxt_format.specs.Sections.{facilityCount, endOf}
-use Rattle.lxt_format.specs.Changes.{dataAt, previousOf}
-use Rattle.lxt_format.specs.Judge.{allChanges, endAt}
+use Rattle.lxt_format.specs.Sections.{timeCount, endOf}
+use Rattle.lxt_format.specs.Geometry.{rootsOf, syncOf}
+use Rattle.lxt_format.specs.Times.{tableAllowed, timesAllowed, timeOf}
+use Rattle.lxt_format.specs.Changes.{dataAt, previousOf, chainOf}
+use Rattle.lxt_format.specs.ChangesLaws.{previous-lt, chain-none}
+use Rattle.lxt_format.specs.Judge.{changesOf, allChanges, endAt}
 use Rattle.lxt_format.specs.JudgeLaws.{accepted}
 use Rattle.lxt_format.specs.Walk.{sort, top, high, step, offsetsAfter}
 use Rattle.lxt_tables.specs.declared.Tables.{Tables}
@@ -30,10 +35,16 @@ use Rattle.lxt_chains.specs.Lists.{Each, each-map}
 use Rattle.lxt_chains.specs.Sorted.{each-sort}
 use Rattle.lxt_format.specs.declared.Pair.{Pair}
 use Rattle.lxt_chains.proofs.ApartLaws.{allowed-inside, allowed-previous, pending-roots, root-changes}
+use Rattle.lxt_chains.specs.Step.{high-ge, top-lt, length-left}
+use Rattle.lxt_values.specs.Times as Ti
+use Rattle.lxt_values.specs.Entries.{EntryAt, Latest}
+use Rattle.lxt_values.specs.declared.entries.Entry.{Entry}
+use Rattle.lxt_values.proofs.TimeLaws.{time-fits}
 use Rattle.lxt_print.specs.Lines.{changeLine}
 use Rattle.lxt_print.specs.Placing.{Opened}
-use Rattle.lxt_print.specs.Stepping.{left, allLeft, Waiting, nextLine, quiet-line, quiet-after, next-line, next-after}
+use Rattle.lxt_print.specs.Stepping.{left, allLeft, Waiting, Last, Timed, nextLine, quiet-line, quiet-after, next-line, next-after}
 use Rattle.lxt_print.proofs.LineLaws.{opened-known}
+use Rattle.lxt_print.proofs.ValueLaws.{times-there}
 
 -- ---- all changes are left
 
@@ -57,15 +68,74 @@ module _ (s : List ℕ) (t : Tables) (w : Opened s t) where
           ap sort (root-changes s m nodes₁ held (drop m nodes₂) e ∙ sym (all-roots s)),
         )
 
+-- ---- the time table, gone down as the offsets fall
+
+-- a file without entries has no change
+no-changes : (s : List ℕ) (fs : List ℕ) → any (λ f. not (eqb (syncOf s f) 0)) fs ≡ false → joined (changesOf s) fs ≡ []
+unfolding any joined changesOf
+no-changes s [] h = refl
+no-changes s (f ∷ fs) h =
+    let b = or-none (not (eqb (syncOf s f) 0)) (any (λ g. not (eqb (syncOf s g) 0)) fs) h in
+    let z : syncOf s f ≡ 0 = eqb-true (syncOf s f) 0 (not-false _ (b .0)) in
+    rw (z, chain-none s, no-changes s fs (b .1))
+
+module _ (s : List ℕ) (t : Tables) (w : Opened s t) where
+  pub no-entries : t .«time_count» ≡ 0 → (e : Entry) → Last s e
+  no-entries z e = let k = opened-known s t w in record { latest = λ h. absurd (omega (arith, k .time-count)) }
+
+  pub last-asks : (t .«time_count» ≡ 0 → ⊥) → Ti.Times s (t .times) (t .«time_count») × (0 < t .«time_count»)
+  last-asks n = (times-there s t w, omega arith)
+
+  pub last-is : (e : Entry) → EntryAt s (e .number) (e .position) (e .time) → e .number + 1 ≡ t .«time_count» → Last s e
+  last-is e a q = let k = opened-known s t w in record { latest = λ h o. record { here = a; later = λ j b c. absurd (omega (arith, k .time-count)) } }
+
+  empty-table : timeCount s ≡ 0 → allChanges s ≡ []
+  unfolding allChanges timesAllowed
+  empty-table z =
+      let k = opened-known s t w in
+      let r : (if eqb (timeCount s) 0 then not (any (λ f. not (eqb (syncOf s f) 0)) (rootsOf s)) else tableAllowed s) ≡ true = k .passed .times in
+      no-changes s (rootsOf s) (not-true _ (rw (eq-eqb (timeCount s) 0 z) at r))
+
+  -- at the start all entries are still to be gone down
+  pub timed-begun : (os : List ℕ) (e : Entry) → Last s e → sort (pendingChanges s 0 os) ≡ allLeft s → Timed s os e
+  unfolding sort
+  timed-begun os e l q = record { latest = λ h. l .latest (some h) (high os) }
+    where
+      some : 0 < high os → 0 < timeCount s
+      some h =
+          on-zero (timeCount s)
+          (λ z.
+          let none : length (sort (pendingChanges s 0 os)) ≡ 0 = rw (q, empty-table z) in
+          let one = length-left s os h in
+          absurd (omega arith))
+          (λ k. k)
+
+-- a step does not raise the highest pending offset
+step-low : (s os : List ℕ) (i : ℕ) → 0 < high os → getD (step s os) i 0 ≤ high os
+unfolding step
+step-low s os i h =
+    elim (ℕ-discrete i (top os)) [
+      | yes e ↦ (
+          let l = top-lt os h in
+          let p = previous-lt s (high os) h in
+          rw (e, getD-set-same os (top os) (previousOf s (high os)) 0 l) (omega arith))
+      | no n ↦ rw (getD-set-other os (top os) i (previousOf s (high os)) 0 n) (high-ge os i)
+    ]
+
+pub timed-next : (s os : List ℕ) (e : Entry) → 0 < high os → Latest s (high os) (e .number) (e .position) (e .time) → Timed s (step s os) e
+timed-next s os e h l =
+    let low = step-low s os (top (step s os)) h in
+    record { latest = λ k. record { here = l .here; later = λ j a b. omega (arith, l .later j a b) } }
+
 -- ---- one step
 
 module _ (s : List ℕ) (t : Tables) (w : Opened s t) (m : ℕ) (nodes : List ℕ) (p : Waiting s t m nodes) (f o : ℕ) (ef : f ≡ top (drop m nodes)) (eo : o ≡ high (drop m nodes)) where
-  pub none-left : o ≡ 0 → (out : List ℕ)
+  pub none-left : o ≡ 0 → (out : List ℕ) (e : Entry) → Timed s (drop m nodes) e
       → ((0 ≡ length (nextLine s (drop m nodes))) × (out ≡ onto (nextLine s (drop m nodes)) out))
-      × (Waiting s t m nodes × (drop m nodes ≡ offsetsAfter s 1 (drop m nodes)))
-  none-left z out =
+      × (Waiting s t m nodes × ((drop m nodes ≡ offsetsAfter s 1 (drop m nodes)) × Timed s (drop m nodes) e))
+  none-left z out e v =
       let h : high (drop m nodes) ≡ 0 = sym eo ∙ z in
-      ((rw (quiet-line s (drop m nodes) h), rw (quiet-line s (drop m nodes) h)), (p, sym (quiet-after s (drop m nodes) h)))
+      ((rw (quiet-line s (drop m nodes) h), rw (quiet-line s (drop m nodes) h)), (p, (sym (quiet-after s (drop m nodes) h), v)))
 
   module _ (some : o ≡ 0 → ⊥) where
     positive : 0 < high (drop m nodes)
@@ -95,11 +165,17 @@ module _ (s : List ℕ) (t : Tables) (w : Opened s t) (m : ℕ) (nodes : List �
     pub put-asks : Tree m nodes × (f < m)
     put-asks = let b = number-below in let r = p .room in (p .tree, omega arith)
 
-    pub stepped : (q : ℕ) → q ≡ previousOf s o → (nodes′ : List ℕ) → Tree m nodes′ → drop m nodes′ ≡ set (drop m nodes) f q
+    pub down-asks : (e : Entry) → Timed s (drop m nodes) e → Ti.Times s (t .times) (t .«time_count») × Latest s o (e .number) (e .position) (e .time)
+    down-asks e v = (times-there s t w, rw eo (v .latest positive))
+
+    pub time-small : AreBytes s → (x : ℕ) → x ≡ timeOf s o → x < 4294967296
+    time-small b x ex = let f = time-fits s (t .times) (t .«time_count») (times-there s t w) b o in omega arith
+
+    pub stepped : (e : Entry) → Latest s o (e .number) (e .position) (e .time) → (q : ℕ) → q ≡ previousOf s o → (nodes′ : List ℕ) → Tree m nodes′ → drop m nodes′ ≡ set (drop m nodes) f q
         → (r : ℕ) (out out′ : List ℕ) → r ≡ length (changeLine s (pairOf f o)) → out′ ≡ onto (changeLine s (pairOf f o)) out
         → ((r ≡ length (nextLine s (drop m nodes))) × (out′ ≡ onto (nextLine s (drop m nodes)) out))
-        × (Waiting s t m nodes′ × (drop m nodes′ ≡ offsetsAfter s 1 (drop m nodes)))
-    stepped q eq nodes′ tree en r out out′ er eb =
+        × (Waiting s t m nodes′ × ((drop m nodes′ ≡ offsetsAfter s 1 (drop m nodes)) × Timed s (drop m nodes′) e))
+    stepped entry latest q eq nodes′ tree en r out out′ er eb =
         let e : drop m nodes′ ≡ step s (drop m nodes) = en ∙ (unfold step in rw (ef, eq, eo)) in
         let line : nextLine s (drop m nodes) ≡ changeLine s (pairOf f o) = rw (ef, eo) (next-line s (drop m nodes) positive) in
         let b = number-below in (
@@ -111,7 +187,7 @@ module _ (s : List ℕ) (t : Tables) (w : Opened s t) (m : ℕ) (nodes : List �
               past = λ i k. rw en (getD-set-other (drop m nodes) f i q 0 (λ z. omega arith) ∙ p .past i k);
               each = rw e (each-step s (drop m nodes) positive (p .each) .1);
             },
-            e ∙ sym (next-after s (drop m nodes) positive),
+            (e ∙ sym (next-after s (drop m nodes) positive), rw e (timed-next s (drop m nodes) entry positive (rw eo at latest))),
           ),
         )
 

@@ -42,19 +42,18 @@ times-there s t w =
     let k = opened-known s t w in
     record { start = k .times; count = k .time-count; inside = omega (arith, k .times-at .inside); allowed = k .passed .times }
 
-pub change-text : (s : List ℕ) (f o x : ℕ) → x ≡ timeOf s o
-    → (0x63 ∷ 0x68 ∷ 0x61 ∷ 0x6E ∷ 0x67 ∷ 0x65 ∷ 0x20 ∷ []) ++ (decimal f ++ (0x20 ∷ [])) ++ (decimal o ++ (0x20 ∷ [])) ++ (decimal x ++ (0x20 ∷ [])) ≡ changeHead s f o
+pub change-text : (f o x : ℕ)
+    → (0x63 ∷ 0x68 ∷ 0x61 ∷ 0x6E ∷ 0x67 ∷ 0x65 ∷ 0x20 ∷ []) ++ (decimal f ++ (0x20 ∷ [])) ++ (decimal o ++ (0x20 ∷ [])) ++ (decimal x ++ (0x20 ∷ [])) ≡ changeHead f o x
 unfolding changeHead changeWord digits
-change-text s f o x e =
+change-text f o x =
     let a : List ℕ = changeWord ++ space in
-    rw e
-    (sym (append-assoc (a ++ (decimal f ++ space) ++ (decimal o ++ space)) (decimal (timeOf s o)) space)
-    ∙ ap (λ l. l ++ decimal (timeOf s o) ++ space)
-    (sym (append-assoc (a ++ (decimal f ++ space)) (decimal o) space) ∙ ap (λ l. l ++ decimal o ++ space) (sym (append-assoc a (decimal f) space))))
+    sym (append-assoc (a ++ (decimal f ++ space) ++ (decimal o ++ space)) (decimal x) space)
+    ∙ ap (λ l. l ++ decimal x ++ space)
+    (sym (append-assoc (a ++ (decimal f ++ space)) (decimal o) space) ∙ ap (λ l. l ++ decimal o ++ space) (sym (append-assoc a (decimal f) space)))
 
-pub change-line : (s : List ℕ) (f o : ℕ) → changeHead s f o ++ valueText s (contentOf s f o) ++ (0x0A ∷ []) ≡ changeLine s (pairOf f o)
+pub change-line : (s : List ℕ) (f o x : ℕ) → x ≡ timeOf s o → changeHead f o x ++ valueText s (contentOf s f o) ++ (0x0A ∷ []) ≡ changeLine s (pairOf f o)
 unfolding changeHead changeLine
-change-line s f o = refl
+change-line s f o x e = rw e
 
 -- ---- what reading the value asks
 

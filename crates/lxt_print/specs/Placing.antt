@@ -5,7 +5,6 @@ use mathlib.Core.List.{List, [], _∷_, _++_}
 use lib.ListN.{length, take, drop}
 use Rattle.lxt_format.specs.Basics.{if_then_else_}
 use Rattle.lxt_format.specs.Geometry.{isAlias, rootOf, ownFacts}
-use Rattle.lxt_format.specs.Times.{timeOf}
 use Rattle.lxt_format.specs.Judge.{fileRefusal}
 use Rattle.lxt_tables.specs.Stage.{tablesOf}
 use Rattle.lxt_tables.specs.declared.Tables.{Tables}
@@ -39,5 +38,5 @@ facilityEnd s f =
     else kindWord (ownFacts s f .kind) ++ space ++ decimal (ownFacts s f .width)
 
 -- "change 0 6 5 ": up to the value
-unfoldable pub changeHead : List ℕ → ℕ → ℕ → List ℕ
-changeHead s f o = changeWord ++ space ++ decimal f ++ space ++ decimal o ++ space ++ decimal (timeOf s o) ++ space
+unfoldable pub changeHead : ℕ → ℕ → ℕ → List ℕ
+changeHead f o time = changeWord ++ space ++ decimal f ++ space ++ decimal o ++ space ++ decimal time ++ space

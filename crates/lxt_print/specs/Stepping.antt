@@ -8,6 +8,7 @@ use lib.ListN.{length, getD, drop, length-append}
 use lib.Dec.{eqb}
 use borrow.Author.Tests.{eq-eqb, ne-eqb}
 use Rattle.lxt_format.specs.Basics.{if_then_else_, joined}
+use Rattle.lxt_format.specs.Sections.{timeCount}
 use Rattle.lxt_format.specs.BasicsLaws.{on-zero}
 use Rattle.lxt_format.specs.Times.{timeOf}
 use Rattle.lxt_format.specs.Values.{contentOf}
@@ -21,6 +22,8 @@ use Rattle.lxt_chains.specs.Accepted.{Allowed}
 use Rattle.lxt_chains.specs.Tree.{Tree}
 use Rattle.lxt_chains.specs.Step.{sorted-quiet, sorted-step, length-left}
 use Rattle.lxt_chains.specs.Bridge.{all-roots}
+use Rattle.lxt_values.specs.Entries.{Latest}
+use Rattle.lxt_values.specs.declared.entries.Entry.{Entry}
 use Rattle.lxt_print.specs.Lines.{decimal, space, newline, changeWord, valueText, changeLine}
 
 -- the changes that are left, by the leaves of a tree
@@ -37,6 +40,14 @@ pub record Waiting (s : List ℕ) (t : Tables) (m : ℕ) (nodes : List ℕ) : Ty
   pub room : t .facilities ≤ m
   pub past : (i : ℕ) → t .facilities ≤ i → getD (drop m nodes) i 0 ≡ 0
   pub each : Each (Allowed s) (left s m nodes)
+
+-- the last entry of the time table, after which there is none; any entry where the table is empty
+pub record Last (s : List ℕ) (e : Entry) : Type 0 where
+  pub latest : 0 < timeCount s → (o : ℕ) → Latest s o (e .number) (e .position) (e .time)
+
+-- the time table was gone down to an entry after which all lie above the highest pending offset
+pub record Timed (s os : List ℕ) (e : Entry) : Type 0 where
+  pub latest : 0 < high os → Latest s (high os) (e .number) (e .position) (e .time)
 
 -- the line of the highest pending change, of equal ones that of the lowest facility; none where all pending offsets are 0
 unfoldable pub nextLine : List ℕ → List ℕ → List ℕ

@@ -6,13 +6,15 @@ ghost use Rattle.lxt_format.specs.Columns.{onto};
 ghost use Rattle.lxt_format.specs.Walk.{offsetsAfter};
 ghost use Rattle.lxt_chains.specs.Tree.{Blank};
 ghost use Rattle.lxt_print.specs.Placing.{Opened};
-ghost use Rattle.lxt_print.specs.Stepping.{Waiting, left, allLeft, nextLine};
+ghost use Rattle.lxt_print.specs.Stepping.{Waiting, left, allLeft, Last, Timed, nextLine};
 use crate::lines;
 use lxt_chains::apart;
 use lxt_chains::tree;
 use lxt_chains::whole;
 use lxt_changes::delta;
 use lxt_tables::Tables;
+use lxt_values::entries;
+use lxt_values::entries::Entry;
 
 // All changes are left: the leaves of the tree hold where each root's chain starts.
 pub fn start(file: &[u8], t: Tables, nodes: &mut [u32], m: usize)
@@ -24,21 +26,57 @@ pub fn start(file: &[u8], t: Tables, nodes: &mut [u32], m: usize)
     tree::build(nodes, m);
 }
 
-// The line of the next change, put at the start of the buffer: its length. Where no change is left the
-// answer is 0, and nothing is changed.
-pub fn next(file: &[u8], t: Tables, nodes: &mut [u32], m: usize, out: &mut [u8]) -> usize
-    requires { ⌜ Opened (now file) t × (Waiting (now file) t m (now nodes) × (2 * length (now file) + 4200 ≤ length (now out))) ⌝ }
-    ensures { λ r. ⌜ (r ≡ length (nextLine (now (file .entry)) (drop m (now (nodes .entry))))) × (now (out .exit) ≡ onto (nextLine (now (file .entry)) (drop m (now (nodes .entry)))) (now (out .entry))) ⌝ }
-    ensures { λ _. ⌜ Waiting (now (file .entry)) t m (now (nodes .exit)) × (drop m (now (nodes .exit)) ≡ offsetsAfter (now (file .entry)) 1 (drop m (now (nodes .entry)))) ⌝ }
+// The entry of the time table that the times of all changes are looked for from: the last one. A file
+// without entries has no change.
+pub fn last_entry(file: &[u8], t: Tables) -> Entry
+    requires { ⌜ Opened (now file) t ⌝ }
+    ensures { λ r. ⌜ Last (now (file .entry)) r ⌝ }
+{
+    if t.time_count == 0 {
+        return Entry {
+            number: 0,
+            position: 0,
+            time: 0,
+        };
+    }
+    entries::last(file, t.times as usize, t.time_count)
+}
+
+// The length of a line that was put, and the entry of the time table that gave its time.
+pub struct Line {
+    pub size: usize,
+    pub entry: Entry,
+}
+
+// The line of the next change, put at the start of the buffer. Where no change is left its length is 0,
+// and nothing is changed.
+pub fn next(
+    file: &[u8],
+    t: Tables,
+    entry: Entry,
+    nodes: &mut [u32],
+    m: usize,
+    out: &mut [u8],
+) -> Line
+    requires { ⌜ Opened (now file) t × (Waiting (now file) t m (now nodes) × (Timed (now file) (drop m (now nodes)) entry × (2 * length (now file) + 4200 ≤ length (now out)))) ⌝ }
+    ensures { λ r. ⌜ (r .size ≡ length (nextLine (now (file .entry)) (drop m (now (nodes .entry))))) × (now (out .exit) ≡ onto (nextLine (now (file .entry)) (drop m (now (nodes .entry)))) (now (out .entry))) ⌝ }
+    ensures { λ r. ⌜ Waiting (now (file .entry)) t m (now (nodes .exit)) × ((drop m (now (nodes .exit)) ≡ offsetsAfter (now (file .entry)) 1 (drop m (now (nodes .entry)))) × Timed (now (file .entry)) (drop m (now (nodes .exit))) (r .entry)) ⌝ }
 {
     let top = tree::highest(nodes, m);
     let number = top.number;
     let o = top.offset;
     if o == 0 {
-        return 0;
+        return Line {
+            size: 0,
+            entry: entry,
+        };
     }
-    let size = lines::change(file, t, number as u32, o, out);
+    let e = entries::down(file, t.times as usize, t.time_count, entry, o as usize);
+    let size = lines::change(file, t, number as u32, o, e.time as u32, out);
     let previous = delta::previous(file, o as usize) as u32;
     tree::put(nodes, m, number, previous);
-    size
+    Line {
+        size: size,
+        entry: e,
+    }
 }

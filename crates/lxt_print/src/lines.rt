@@ -5,6 +5,7 @@ ghost use mathlib.Core.List.{_++_};
 ghost use lib.ListN.{length};
 ghost use Rattle.lxt_format.specs.Columns.{onto};
 ghost use Rattle.lxt_format.specs.Names.{nameOf};
+ghost use Rattle.lxt_format.specs.Times.{timeOf};
 ghost use Rattle.lxt_format.specs.Values.{contentOf};
 ghost use Rattle.lxt_chains.specs.Pending.{pairOf};
 ghost use Rattle.lxt_chains.specs.Accepted.{Allowed};
@@ -22,7 +23,6 @@ use lxt_tables::Tables;
 use lxt_tables::aliases;
 use lxt_tables::geometry;
 use lxt_values::names;
-use lxt_values::times;
 
 // "refused" and the number.
 pub fn refused(k: u8, out: &mut [u8]) -> usize
@@ -120,11 +120,10 @@ pub fn next_facility(file: &[u8], t: Tables, f: u32, name: &mut [u8], out: &mut 
 }
 
 // A change's number, offset and time.
-fn put_change(file: &[u8], t: Tables, f: u32, o: u32, out: &mut [u8]) -> usize
-    requires { ⌜ Opened (now file) t × (40 ≤ length (now out)) ⌝ }
-    ensures { λ r. ⌜ Put (now (out .entry)) 0 (changeHead (now (file .entry)) f o) r (now (out .exit)) × (r ≤ 40) ⌝ }
+fn put_change(f: u32, o: u32, time: u32, out: &mut [u8]) -> usize
+    requires { ⌜ 40 ≤ length (now out) ⌝ }
+    ensures { λ r. ⌜ Put (now (out .entry)) 0 (changeHead f o time) r (now (out .exit)) × (r ≤ 40) ⌝ }
 {
-    let time = times::time_of(file, t.times as usize, t.time_count, o as usize);
     let p = put_bytes(out, 0, &[b'c', b'h', b'a', b'n', b'g', b'e', b' ']);
     let q = put_number(out, p, f);
     let r = put_number(out, q, o);
@@ -164,11 +163,11 @@ fn put_value(file: &[u8], t: Tables, f: u32, o: u32, out: &mut [u8], at: usize) 
 }
 
 // A change: its number, offset, time and value.
-pub fn change(file: &[u8], t: Tables, f: u32, o: u32, out: &mut [u8]) -> usize
-    requires { ⌜ Opened (now file) t × ((f < t .facilities) × (Allowed (now file) (pairOf f o) × (2 * length (now file) + 4200 ≤ length (now out)))) ⌝ }
+pub fn change(file: &[u8], t: Tables, f: u32, o: u32, time: u32, out: &mut [u8]) -> usize
+    requires { ⌜ Opened (now file) t × ((f < t .facilities) × (Allowed (now file) (pairOf f o) × ((time ≡ timeOf (now file) o) × (2 * length (now file) + 4200 ≤ length (now out))))) ⌝ }
     ensures { λ r. ⌜ (r ≡ length (changeLine (now (file .entry)) (pairOf f o))) × (now (out .exit) ≡ onto (changeLine (now (file .entry)) (pairOf f o)) (now (out .entry))) ⌝ }
 {
-    let p = put_change(file, t, f, o, out);
+    let p = put_change(f, o, time, out);
     let q = put_value(file, t, f, o, out, p);
     put_bytes(out, q, &[b'\n'])
 }

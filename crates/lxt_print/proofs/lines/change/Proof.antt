@@ -1,4 +1,3 @@
-use native.Mathlib.Omega.{arith}
 use Rattle.lxt_print.proofs.LineLaws.{put-more, line-ended}
 use Rattle.lxt_print.proofs.ValueLaws.{change-line}
 use borrow.Author.Needs.{needs}
@@ -21,7 +20,7 @@ same-length : tie.Need-same-length
 same-length c = search needs
 
 returns : tie.Need-returns
-returns c = line-ended (change-line _ _ _) (put-more (put-more (c .before .before .before .before .before .before .before .before .before .before .before .put-change .ensures .0) (c .before .before .before .before .before .before .before .put-value .ensures .0)) (c .before .before .put-bytes .ensures))
+returns c = line-ended (change-line _ _ _ _ (c .before .before .before .before .before .before .before .before .before .before .before .before .before .before .before .pre .1 .1 .1 .0)) (put-more (put-more (c .before .before .before .before .before .before .before .before .before .before .before .put-change .ensures .0) (c .before .before .before .before .before .before .before .put-value .ensures .0)) (c .before .before .put-bytes .ensures))
 
 pub change-spec : {M : Type 1} → statement M
 change-spec =

@@ -1,14 +1,8 @@
 use Rattle.lxt_print.proofs.LineLaws.{put-more, put-is}
-use Rattle.lxt_print.proofs.ValueLaws.{times-there, change-text}
+use Rattle.lxt_print.proofs.ValueLaws.{change-text}
 use borrow.Author.Needs.{needs}
 use Rattle.lxt_print.proofs.lines.put_change.Statement.{statement}
 use Rattle.lxt_print.proofs.lines.put_change.Tie as tie
-
-cast-time-of : tie.Need-cast-time-of
-cast-time-of c = search needs
-
-time-of-requires : tie.Need-time-of-requires
-time-of-requires c κs = times-there _ _ (c .before .before .before .pre .0)
 
 slice-aggregate-put-bytes : tie.Need-slice-aggregate-put-bytes
 slice-aggregate-put-bytes c = search needs
@@ -29,14 +23,12 @@ same-length : tie.Need-same-length
 same-length c = search needs
 
 returns : tie.Need-returns
-returns c = (put-is (change-text _ _ _ _ (c .before .before .before .before .before .before .before .before .before .before .before .before .before .before .before .before .before .time-of .ensures)) (put-more (put-more (put-more (c .before .before .before .before .before .before .before .before .before .before .before .before .before .before .put-bytes .ensures) (c .before .before .before .before .before .before .before .before .before .before .put-number .ensures .0)) (c .before .before .before .before .before .before .put-number2 .ensures .0)) (c .before .before .put-number3 .ensures .0)), search needs)
+returns c = (put-is (change-text _ _ _) (put-more (put-more (put-more (c .before .before .before .before .before .before .before .before .before .before .before .before .before .before .put-bytes .ensures) (c .before .before .before .before .before .before .before .before .before .before .put-number .ensures .0)) (c .before .before .before .before .before .before .put-number2 .ensures .0)) (c .before .before .put-number3 .ensures .0)), search needs)
 
 pub put-change-spec : {M : Type 1} → statement M
 put-change-spec =
     tie.close
     (tie.spec
-    cast-time-of
-    time-of-requires
     slice-aggregate-put-bytes
     put-bytes-requires
     put-number-requires
