@@ -5,12 +5,13 @@ use mathlib.Core.Path.{_≡_, refl, sym, ap, _∙_}
 use mathlib.Core.List.{List, [], _∷_}
 use lib.ListN.{length, drop}
 use Rattle.lxt_format.specs.BasicsLaws.{on-zero}
+use Rattle.lxt_format.specs.Judge.{allChanges}
 use Rattle.lxt_format.specs.Walk.{high, sort, step, offsetsAfter}
 use Rattle.lxt_tables.specs.declared.Tables.{Tables}
 use Rattle.lxt_chains.specs.Pending.{pendingChanges}
 use Rattle.lxt_chains.specs.Step.{sorted-quiet, length-left}
 use Rattle.lxt_print.specs.Placing.{Opened}
-use Rattle.lxt_print.specs.Stepping.{left, allLeft, Waiting, nextLine, quiet-line, next-after, zero-quiet}
+use Rattle.lxt_print.specs.Stepping.{left, allLeft, Waiting, nextLine, quiet-line, next-after, zero-quiet, length-sort}
 use Rattle.lxt_print.proofs.StepLaws.{few-changes}
 
 -- `count` changes are printed, and the rest is left
@@ -22,11 +23,12 @@ pub print-begun : (s : List ℕ) (t : Tables) (m : ℕ) (nodes : List ℕ) → W
 print-begun s t m nodes w e = let l : length (left s m nodes) ≡ length (allLeft s) = rw e in record { waiting = w; sum = omega arith }
 
 module _ (s : List ℕ) (t : Tables) (m : ℕ) (nodes : List ℕ) (count : ℕ) (w : Printing s t m nodes count) (size : ℕ) (es : size ≡ length (nextLine s (drop m nodes))) where
-  pub print-ended : size ≡ 0 → count ≡ length (allLeft s)
+  pub print-ended : size ≡ 0 → count ≡ length (allChanges s)
   print-ended z =
       let q = zero-quiet s (drop m nodes) (sym es ∙ z) in
       let l : length (left s m nodes) ≡ 0 = rw (sorted-quiet s (drop m nodes) q) in
       let e = w .sum in
+      let a = length-sort (allChanges s) in
       omega arith
 
   module _ (some : size ≡ 0 → ⊥) (nodes′ : List ℕ) (e : drop m nodes′ ≡ offsetsAfter s 1 (drop m nodes)) where
