@@ -3,9 +3,9 @@
 ghost use mathlib.Core.Path.{_≡_};
 ghost use Prim.Native.Nat.{_+_, _*_, _≤_};
 ghost use lib.ListN.{length};
+ghost use Rattle.lxt_format.specs.Judge.{allChanges};
 ghost use Rattle.lxt_chains.specs.Tree.{Blank};
 ghost use Rattle.lxt_print.specs.Placing.{Opened};
-ghost use Rattle.lxt_print.specs.Stepping.{allLeft};
 use libc::STDIN_FILENO;
 use libc::STDOUT_FILENO;
 use lxt_chains::tree;
@@ -43,12 +43,15 @@ fn print_facilities(file: &[u8], t: Tables, name: &mut [u8], out: &mut [u8])
 // Prints all changes: how many they are.
 fn print_changes(file: &[u8], t: Tables, nodes: &mut [u32], m: usize, out: &mut [u8]) -> u32
     requires { ⌜ Opened (now file) t × ((t .facilities ≤ m) × (Blank m (now nodes) × (2 * length (now file) + 4200 ≤ length (now out)))) ⌝ }
-    ensures { λ r. ⌜ r ≡ length (allLeft (now (file .entry))) ⌝ }
+    ensures { λ r. ⌜ r ≡ length (allChanges (now (file .entry))) ⌝ }
 {
     changes::start(file, t, nodes, m);
+    let mut entry = changes::last_entry(file, t);
     let mut count = 0;
     loop {
-        let size = changes::next(file, t, nodes, m, out);
+        let line = changes::next(file, t, entry, nodes, m, out);
+        entry = line.entry;
+        let size = line.size;
         if size == 0 {
             return count;
         }
@@ -60,7 +63,7 @@ fn print_changes(file: &[u8], t: Tables, nodes: &mut [u32], m: usize, out: &mut 
 // The same, with room for a tree with a leaf for each facility.
 fn walk(file: &[u8], t: Tables, out: &mut [u8]) -> u32
     requires { ⌜ Opened (now file) t × (2 * length (now file) + 4200 ≤ length (now out)) ⌝ }
-    ensures { λ r. ⌜ r ≡ length (allLeft (now (file .entry))) ⌝ }
+    ensures { λ r. ⌜ r ≡ length (allChanges (now (file .entry))) ⌝ }
 {
     let mut nodes = [0u32; 8192];
     let n = t.facilities as usize;

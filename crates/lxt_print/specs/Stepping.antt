@@ -5,15 +5,15 @@ use mathlib.Core.Path.{_≡_, refl, sym, ap, _∙_}
 use mathlib.Core.Bool.{Bool, true, false}
 use mathlib.Core.List.{List, [], _∷_, _++_, append-nil}
 use lib.ListN.{length, getD, drop, length-append}
-use lib.Dec.{eqb}
+use lib.Dec.{leb, eqb}
 use borrow.Author.Tests.{eq-eqb, ne-eqb}
-use Rattle.lxt_format.specs.Basics.{if_then_else_, joined}
-use Rattle.lxt_format.specs.Sections.{timeCount}
-use Rattle.lxt_format.specs.BasicsLaws.{on-zero}
+use Rattle.lxt_format.specs.Basics.{if_then_else_, range, joined}
+use Rattle.lxt_format.specs.Sections.{facilityCount, timeCount}
+use Rattle.lxt_format.specs.BasicsLaws.{on-test, on-zero}
 use Rattle.lxt_format.specs.Times.{timeOf}
 use Rattle.lxt_format.specs.Values.{contentOf}
 use Rattle.lxt_format.specs.Judge.{allChanges}
-use Rattle.lxt_format.specs.Walk.{sort, top, high, step, handedOut, offsetsAfter}
+use Rattle.lxt_format.specs.Walk.{insert, sort, top, high, step, handedOut, offsetsAfter}
 use Rattle.lxt_format.specs.declared.Pair.{Pair}
 use Rattle.lxt_tables.specs.declared.Tables.{Tables}
 use Rattle.lxt_chains.specs.Pending.{pairOf, pendingChanges, rootOffsets}
@@ -24,7 +24,7 @@ use Rattle.lxt_chains.specs.Step.{sorted-quiet, sorted-step, length-left}
 use Rattle.lxt_chains.specs.Bridge.{all-roots}
 use Rattle.lxt_values.specs.Entries.{Latest}
 use Rattle.lxt_values.specs.declared.entries.Entry.{Entry}
-use Rattle.lxt_print.specs.Lines.{decimal, space, newline, changeWord, valueText, changeLine}
+use Rattle.lxt_print.specs.Lines.{decimal, space, newline, changeWord, valueText, facilityLine, changeLine, doneLine, acceptedText}
 
 -- the changes that are left, by the leaves of a tree
 abbrev pub left : List ℕ → ℕ → List ℕ → List Pair
@@ -108,3 +108,24 @@ lines-left (suc k) s os h =
 -- from the sync entries of all roots on, these are the lines of all changes: "changes in walk order with all asked for"
 pub all-lines : (s : List ℕ) (k : ℕ) → length (allLeft s) ≤ k → linesBy k s (rootOffsets s) ≡ joined (changeLine s) (allLeft s)
 all-lines s k h = rw (all-roots s) (lines-left k s (rootOffsets s) (rw (← all-roots s) h))
+
+-- ---- the whole text
+
+length-insert : (p : Pair) (l : List Pair) → length (insert p l) ≡ suc (length l)
+unfolding insert
+length-insert p [] = refl
+length-insert p (q ∷ l) =
+    let ih = length-insert p l in
+    on-test (leb (q .offset) (p .offset)) (λ e. rw e) (λ e. rw e (ap suc ih))
+
+-- sorting loses no change
+pub length-sort : (l : List Pair) → length (sort l) ≡ length l
+unfolding sort
+length-sort [] = refl
+length-sort (p ∷ l) = length-insert p (sort l) ∙ ap suc (length-sort l)
+
+-- an accepted file's text: the line of each facility, the lines of the steps from the sync entries of all roots on, and how many changes there are
+pub accepted-lines : (s : List ℕ) (k : ℕ) → length (allChanges s) ≤ k
+    → acceptedText s ≡ joined (facilityLine s) (range 0 (facilityCount s)) ++ linesBy k s (rootOffsets s) ++ doneLine (length (allChanges s))
+unfolding acceptedText
+accepted-lines s k h = rw (all-lines s k (rw (length-sort (allChanges s)) h))

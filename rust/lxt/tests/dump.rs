@@ -1,0 +1,111 @@
+//! The small program, as it is built, against expected outputs and the independent reader's dump.
+//! `rt check lxt_dump` builds it.
+
+use std::collections::BTreeMap;
+use std::fs;
+use std::io::Write;
+use std::path::{Path, PathBuf};
+use std::process::{Command, Stdio};
+use std::thread;
+
+/// The longest trace that the program reads.
+const LONGEST: usize = 65_536;
+
+fn repository() -> PathBuf {
+    Path::new(env!("CARGO_MANIFEST_DIR")).join("../..")
+}
+
+/// What the program prints for an input.
+fn printed(input: &[u8]) -> Vec<u8> {
+    let program = repository().join("target/bin/lxt_dump");
+    let mut child = Command::new(&program)
+        .stdin(Stdio::piped())
+        .stdout(Stdio::piped())
+        .spawn()
+        .unwrap_or_else(|error| {
+            panic!(
+                "{}: {error}: run `rt check lxt_dump` first",
+                program.display()
+            )
+        });
+    let mut pipe = child.stdin.take().expect("the program's input");
+    let bytes = input.to_vec();
+    // The program stops reading after one byte more than it takes, which breaks the pipe.
+    let writer = thread::spawn(move || drop(pipe.write_all(&bytes)));
+    let output = child.wait_with_output().expect("the program's output");
+    writer.join().expect("the input's writer");
+    assert!(output.status.success(), "{:?}", output.status);
+    output.stdout
+}
+
+/// Compares with the independent reader and counts the answer: 0 for an accepted file.
+fn compare(input: &[u8], what: &str, seen: &mut BTreeMap<u8, u32>) {
+    let expected = lxt_reference::dump(input);
+    assert!(printed(input) == expected, "{what}");
+    let refusal = expected.strip_prefix(b"refused ").map_or(0, |rest| {
+        let digits = String::from_utf8_lossy(rest);
+        digits.trim_end().parse().expect("a refusal's number")
+    });
+    *seen.entry(refusal).or_default() += 1;
+}
+
+#[test]
+fn prints_the_expected_output_of_every_trace() {
+    let (mut compared, mut over) = (0, 0);
+    for entry in fs::read_dir(repository().join("traces")).expect("the folder of traces") {
+        let path = entry.expect("an entry of the folder").path();
+        if path.extension().and_then(|part| part.to_str()) != Some("lxt") {
+            continue;
+        }
+        let file = fs::read(&path).expect("a trace");
+        if file.len() > LONGEST {
+            assert_eq!(printed(&file), b"refused 1\n", "{}", path.display());
+            over += 1;
+            continue;
+        }
+        let expected = fs::read(path.with_extension("expected")).expect("an expected output");
+        assert!(printed(&file) == expected, "{} differs", path.display());
+        compared += 1;
+    }
+    println!("{compared} compared, {over} over the limit");
+    assert!(compared >= 30 && over >= 1);
+}
+
+#[test]
+fn refuses_one_byte_more_than_the_limit() {
+    let file = fs::read(repository().join("traces/lxtgen_big_1.lxt")).expect("a trace");
+    for length in [LONGEST - 1, LONGEST, LONGEST + 1, LONGEST + 2, 4 * LONGEST] {
+        // Zeros before a trace: within the limit it is refused by another rule.
+        let mut longer = vec![0; length - file.len()];
+        longer.extend_from_slice(&file);
+        compare(&longer, &format!("{length} bytes"), &mut BTreeMap::new());
+        let expected: &[u8] = b"refused 1\n";
+        assert_eq!(printed(&longer) == expected, length > LONGEST, "{length}");
+    }
+}
+
+#[test]
+fn prints_what_the_independent_reader_prints_of_generated_files() {
+    let mut seen = BTreeMap::new();
+    for seed in 0..4_000 {
+        let case = lxt_generate::case(seed);
+        compare(
+            &case.bytes,
+            &format!("seed {seed}, {}", case.origin),
+            &mut seen,
+        );
+    }
+    println!("{seen:?}");
+    for number in (0..=17).filter(|number| *number != 9) {
+        assert!(seen.contains_key(&number), "{number}: {seen:?}");
+    }
+}
+
+#[test]
+fn prints_what_the_independent_reader_prints_of_hostile_files() {
+    let mut seen = BTreeMap::new();
+    for case in lxt_generate::hostile() {
+        compare(&case.bytes, &case.origin, &mut seen);
+    }
+    println!("{seen:?}");
+}
