@@ -13,6 +13,7 @@ use lxt_chains::whole;
 use lxt_print::changes;
 use lxt_print::lines;
 use lxt_tables::Tables;
+use lxt_values::names::NamesLeft;
 
 // Writes the line at the start of the buffer.
 fn write_line(out: &[u8], size: usize)
@@ -32,10 +33,16 @@ fn print_facilities(file: &[u8], t: Tables, name: &mut [u8], out: &mut [u8])
     requires { ⌜ Opened (now file) t × ((1023 ≤ length (now name)) × (1100 ≤ length (now out))) ⌝ }
 {
     let n = t.facilities;
+    let mut names = NamesLeft {
+        left: n,
+        at: t.names as usize + 8,
+        before: 0,
+    };
     let mut f = 0;
     while f < n {
-        let size = lines::next_facility(file, t, f, name, out);
-        write_line(out, size);
+        let line = lines::next_facility(file, t, f, names, name, out);
+        names = line.names;
+        write_line(out, line.size);
         f += 1;
     }
 }

@@ -8,6 +8,9 @@ use Rattle.lxt_format.specs.Geometry.{isAlias, rootOf, ownFacts}
 use Rattle.lxt_format.specs.Judge.{fileRefusal}
 use Rattle.lxt_tables.specs.Stage.{tablesOf}
 use Rattle.lxt_tables.specs.declared.Tables.{Tables}
+use Rattle.lxt_format.specs.Names.{nameAmong, nameOf}
+use Rattle.lxt_values.specs.Names.{coming, Coming}
+use Rattle.lxt_values.specs.declared.names.NamesLeft.{NamesLeft}
 use Rattle.lxt_print.specs.Lines.{decimal, space, facilityWord, changeWord, aliasWord, kindWord}
 
 -- a buffer that holds a text from `at` on
@@ -24,6 +27,12 @@ pub record Put (before : List ℕ) (at : ℕ) (text : List ℕ) (p : ℕ) (after
 pub record Opened (s : List ℕ) (t : Tables) : Type 0 where
   pub tables : t ≡ tablesOf s
   pub accepted : fileRefusal s ≡ 0
+
+-- the names of facility f and of those after it are left, and the buffer holds the name before
+pub record NamesAt (s : List ℕ) (t : Tables) (f : ℕ) (c : NamesLeft) (name : List ℕ) : Type 0 where
+  pub rest : Coming s (t .end) (c .left) (c .at) (c .before) name
+  pub count : c .left + f ≡ t .facilities
+  pub names : (j : ℕ) → nameAmong j (coming s (t .end) (c .left) (c .at) (c .before) name) ≡ nameOf s (f + j)
 
 -- ---- parts of lines
 

@@ -10,7 +10,7 @@ ghost use Rattle.lxt_format.specs.Values.{contentOf};
 ghost use Rattle.lxt_chains.specs.Pending.{pairOf};
 ghost use Rattle.lxt_chains.specs.Accepted.{Allowed};
 ghost use Rattle.lxt_print.specs.Lines.{decimal, space, facilityLine, changeLine, doneLine, refusedLine, kindWord, valueText};
-ghost use Rattle.lxt_print.specs.Placing.{Opened, Put, facilityHead, facilityEnd, changeHead};
+ghost use Rattle.lxt_print.specs.Placing.{Opened, NamesAt, Put, facilityHead, facilityEnd, changeHead};
 use crate::text::bytes_of;
 use crate::text::put_bytes;
 use crate::text::put_decimal;
@@ -18,11 +18,11 @@ use crate::text::put_hex;
 use lxt_format::Kind;
 use lxt_format::Value;
 use lxt_reader::values;
-use lxt_sections::be32;
 use lxt_tables::Tables;
 use lxt_tables::aliases;
 use lxt_tables::geometry;
-use lxt_values::names;
+use lxt_values::names::NamesLeft;
+use lxt_values::names::next;
 
 // "refused" and the number.
 pub fn refused(k: u8, out: &mut [u8]) -> usize
@@ -108,15 +108,32 @@ pub fn facility(file: &[u8], t: Tables, f: u32, name: &[u8], out: &mut [u8]) -> 
     put_bytes(out, q, &[b'\n'])
 }
 
-// The same line, where the name is yet to be expanded, in a lent buffer.
-pub fn next_facility(file: &[u8], t: Tables, f: u32, name: &mut [u8], out: &mut [u8]) -> usize
-    requires { ⌜ Opened (now file) t × ((f < t .facilities) × ((1023 ≤ length (now name)) × (1100 ≤ length (now out)))) ⌝ }
-    ensures { λ r. ⌜ (r ≡ length (facilityLine (now (file .entry)) f)) × (now (out .exit) ≡ onto (facilityLine (now (file .entry)) f) (now (out .entry))) ⌝ }
+// The length of a line that was put, and what is left of the names.
+pub struct NamedLine {
+    pub size: usize,
+    pub names: NamesLeft,
+}
+
+// The same line, where the name is the next of those that are left. It is expanded in a lent buffer, which
+// holds the name before.
+pub fn next_facility(
+    file: &[u8],
+    t: Tables,
+    f: u32,
+    names: NamesLeft,
+    name: &mut [u8],
+    out: &mut [u8],
+) -> NamedLine
+    requires { ⌜ Opened (now file) t × ((f < t .facilities) × (NamesAt (now file) t f names (now name) × (1100 ≤ length (now out)))) ⌝ }
+    ensures { λ r. ⌜ (r .size ≡ length (facilityLine (now (file .entry)) f)) × (now (out .exit) ≡ onto (facilityLine (now (file .entry)) f) (now (out .entry))) ⌝ }
+    ensures { λ r. ⌜ NamesAt (now (file .entry)) t (f + 1) (r .names) (now (name .exit)) ⌝ }
 {
-    let head = t.names as usize;
-    let memory = be32(file, head + 4);
-    let size = names::expand(file, head + 8, t.end, t.facilities, memory, f, name);
-    facility(file, t, f, &name[..size], out)
+    let rest = next(file, t.end, names, name);
+    let size = facility(file, t, f, &name[..rest.before], out);
+    NamedLine {
+        size: size,
+        names: rest,
+    }
 }
 
 // A change's number, offset and time.

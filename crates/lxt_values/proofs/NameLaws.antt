@@ -140,13 +140,14 @@ among-others name none j e = absurd (false≢true e)
 among-others name (some names) j e = refl
 
 -- all names of an allowed table are still to come
-pub all-coming : (s : List ℕ) (at T n M f : ℕ) (d : List ℕ) → Named s at T n M f → 1023 ≤ length d → Coming s T n at 0 d
-all-coming s at T n M f d k room = record {
-  inside = k .inside;
-  inT = k .start;
+pub table-coming : (s : List ℕ) (at T n M : ℕ) (d : List ℕ) → at ≤ T → T ≤ length s → withinMemory M (namesIn n (slice at T s) []) ≡ true → 1023 ≤ length d
+    → Coming s T n at 0 d
+table-coming s at T n M d start inside allowed room = record {
+  inside = inside;
+  inT = start;
   room = room;
   small = omega arith;
-  allowed = within-accepted M (namesIn n (slice at T s) []) (k .allowed);
+  allowed = within-accepted M (namesIn n (slice at T s) []) allowed;
 }
 
 module _ (s : List ℕ) (T left p before : ℕ) (d : List ℕ) (h : Coming s T left p before d) (more : 0 < left) where
@@ -211,7 +212,7 @@ pub none-read : (s : List ℕ) (at T n M f : ℕ) (d : List ℕ) → Named s at 
 unfolding nameAt
 none-read s at T n M f d k room =
     let l = k .number in
-    record { rest = all-coming s at T n M f d k room; few = omega arith; long = refl; tail = refl; name = rw add-one }
+    record { rest = table-coming s at T n M d (k .start) (k .inside) (k .allowed) room; few = omega arith; long = refl; tail = refl; name = rw add-one }
 
 module _ (s : List ℕ) (at T n f : ℕ) (d₀ d : List ℕ) (left p before wanted : ℕ) (h : Held s at T n f d₀ d left p before wanted) where
   module _ (more : 0 < wanted) where

@@ -1,33 +1,19 @@
-use native.Mathlib.Omega.{arith}
-use Rattle.lxt_values.proofs.NameLaws.{front-length}
-use Rattle.lxt_print.proofs.NamingLaws.{head-there, expand-asks, name-part, name-small}
+use Rattle.lxt_print.proofs.NamingLaws.{next-asks, name-small, name-length, name-here, names-next}
 use borrow.Author.Needs.{needs}
 use Rattle.lxt_print.proofs.lines.next_facility.Statement.{statement}
 use Rattle.lxt_print.proofs.lines.next_facility.Tie as tie
 
-cast-head : tie.Need-cast-head
-cast-head c = search needs
-
-add-be32 : tie.Need-add-be32
-add-be32 c = search needs
-
-be32-requires : tie.Need-be32-requires
-be32-requires c κs = head-there _ _ (c .before .before .before .before .pre .0) _ (c .before .before .before .before .pre .1 .0)
-
-add-expand : tie.Need-add-expand
-add-expand c = search needs
-
-expand-requires : tie.Need-expand-requires
-expand-requires c κs = (expand-asks _ _ (c .before .before .before .before .before .before .pre .0) _ (c .before .before .before .before .before .before .pre .1 .0) _ (c .before .be32 .ensures), c .before .before .before .before .before .before .pre .1 .1 .0)
+next-requires : tie.Need-next-requires
+next-requires c κs = next-asks _ _ (c .before .before .before .before .pre .0) _ _ _ (c .before .before .before .before .pre .1 .1 .0) (c .before .before .before .before .pre .1 .0)
 
 slice-reshare-prefix-facility : tie.Need-slice-reshare-prefix-facility
-slice-reshare-prefix-facility c = omega (arith, name-small _ _ (c .before .before .before .before .before .before .before .before .before .pre .0) _ (c .before .before .before .before .before .before .before .before .before .pre .1 .0) _ (c .before .before .expand .ensures .0))
+slice-reshare-prefix-facility c = name-small _ _ (c .before .before .before .before .before .before .before .pre .0) _ _ _ (c .before .before .before .before .before .before .before .pre .1 .1 .0) _ _ (c .before .before .next .ensures)
 
 slice-aggregate-facility : tie.Need-slice-aggregate-facility
-slice-aggregate-facility c = front-length _ _ _ _ (c .before .before .before .expand .ensures .0) (c .before .before .before .expand .ensures .1)
+slice-aggregate-facility c = name-length _ _ (c .before .before .before .before .before .before .before .before .pre .0) _ _ _ (c .before .before .before .before .before .before .before .before .pre .1 .1 .0) _ _ (c .before .before .before .next .ensures)
 
 facility-requires : tie.Need-facility-requires
-facility-requires c κs = (c .before .before .before .before .before .before .before .before .before .before .before .pre .0, (c .before .before .before .before .before .before .before .before .before .before .before .pre .1 .0, (name-part _ _ (c .before .before .before .before .before .before .before .before .before .before .before .pre .0) _ (c .before .before .before .before .before .before .before .before .before .before .before .pre .1 .0) _ _ _ (c .before .before .before .before .expand .ensures .0) (c .before .before .before .before .expand .ensures .1), c .before .before .before .before .before .before .before .before .before .before .before .pre .1 .1 .1)))
+facility-requires c κs = (c .before .before .before .before .before .before .before .before .before .pre .0, (c .before .before .before .before .before .before .before .before .before .pre .1 .0, (name-here _ _ (c .before .before .before .before .before .before .before .before .before .pre .0) _ _ _ (c .before .before .before .before .before .before .before .before .before .pre .1 .1 .0) _ _ (c .before .before .before .before .next .ensures), c .before .before .before .before .before .before .before .before .before .pre .1 .1 .1)))
 
 same-length : tie.Need-same-length
 same-length c = search needs
@@ -36,17 +22,13 @@ same-length-2 : tie.Need-same-length-2
 same-length-2 c = search needs
 
 returns : tie.Need-returns
-returns c = search needs
+returns c = (search needs, names-next _ _ (c .before .before .before .before .before .before .before .before .before .before .before .before .pre .0) _ _ _ (c .before .before .before .before .before .before .before .before .before .before .before .before .pre .1 .1 .0) _ _ (c .before .before .before .before .before .before .before .next .ensures))
 
 pub next-facility-spec : {M : Type 1} → statement M
 next-facility-spec =
     tie.close
     (tie.spec
-    cast-head
-    add-be32
-    be32-requires
-    add-expand
-    expand-requires
+    next-requires
     slice-reshare-prefix-facility
     slice-aggregate-facility
     facility-requires
