@@ -1,17 +1,20 @@
 -- From what the reader answers to what the C functions hand out.
 use Prim.Native.Nat.{ℕ}
 use mathlib.Core.Path.{_≡_, refl, sym, _∙_, ap}
+use mathlib.Core.Bool.{Bool, true, false}
 use mathlib.Core.List.{List, [], _∷_}
 use lib.Ieee.{Float}
 use native.Mathlib.Omega.{arith}
 use native.Mathlib.Decide.{ℕ-discrete}
-use Rattle.lxt_format.specs.Basics.{Answer, given, refused, answer}
+use Rattle.lxt_format.specs.Basics.{if_then_else_, Answer, given, refused, answer}
 use Rattle.lxt_format.specs.BasicsLaws.{answer-given, answer-refused}
-use Rattle.lxt_format.specs.Answers.{Shown, valueSays, timedSays}
+use Rattle.lxt_format.specs.Answers.{Shown, valueSays, timedSays, carrySays}
+use Rattle.lxt_format.specs.declared.CarryAnswer.{CarryAnswer}
+use Rattle.lxt_format.specs.declared.CarryAnswer.the-variants.{Handed}
 use Rattle.lxt_format.specs.declared.TimedValue.{TimedValue}
 use Rattle.lxt_format.specs.declared.Value.{Value}
 use Rattle.lxt_format.specs.declared.Value.the-variants.{Bits, Real, Text}
-use Rattle.lxt_c.specs.Numbers.{numberOf, oneNumber, valueNumbers, shownNumbers, timeBy, changeTime}
+use Rattle.lxt_c.specs.Numbers.{numberOf, oneNumber, valueNumbers, shownNumbers, timeBy, changeTime, carryNumbers}
 
 is-given : {A : Type 0} → Answer A → ℕ
 is-given (given a) = 1
@@ -35,6 +38,9 @@ one-number-is e before h = h ∙ ap (λ a. oneNumber a before) e
 
 pub value-numbers-are : {p q : Answer Shown} → p ≡ q → (before : List ℕ) {after : List ℕ} → after ≡ valueNumbers p before → after ≡ valueNumbers q before
 value-numbers-are e before h = h ∙ ap (λ a. valueNumbers a before) e
+
+pub carry-numbers-are : {p q : Answer (ℕ × Bool)} → p ≡ q → (before : List ℕ) {after : List ℕ} → after ≡ carryNumbers p before → after ≡ carryNumbers q before
+carry-numbers-are e before h = h ∙ ap (λ a. carryNumbers a before) e
 
 module _ (v : Value) where
   pub bits-number : (w : ℕ) → v ≡ Bits w → 0 ≡ numberOf (valueSays v)
@@ -83,3 +89,19 @@ module _ {p : ℕ × Answer Shown} (t : TimedValue) (e : timedSays t ≡ p) wher
 
   pub timed-time : (before : ℕ) {after : ℕ} → after ≡ timeBy (valueSays (t .value)) (t .time) before → after ≡ changeTime p before
   timed-time before h = h ∙ ap (λ a. changeTime a before) e
+
+-- pairs that were handed out
+module _ (a : CarryAnswer) (count : ℕ) (done : Bool) (e : a ≡ Handed count done) where
+  pub handed-number : 0 ≡ numberOf (carrySays a)
+  unfolding numberOf
+  handed-number = rw e
+
+  handed-numbers : (before : List ℕ) → (count ∷ (if done then 1 else 0) ∷ []) ≡ carryNumbers (carrySays a) before
+  unfolding carryNumbers
+  handed-numbers before = rw e
+
+  pub last-numbers : done ≡ true → (last : ℕ) → last ≡ 1 → (before : List ℕ) → (count ∷ last ∷ []) ≡ carryNumbers (carrySays a) before
+  last-numbers d last l before = ap (λ (n : ℕ). count ∷ n ∷ []) (l ∙ ap (λ b. if b then 1 else 0) (sym d)) ∙ handed-numbers before
+
+  pub more-numbers : done ≡ false → (last : ℕ) → last ≡ 0 → (before : List ℕ) → (count ∷ last ∷ []) ≡ carryNumbers (carrySays a) before
+  more-numbers d last l before = ap (λ (n : ℕ). count ∷ n ∷ []) (l ∙ ap (λ b. if b then 1 else 0) (sym d)) ∙ handed-numbers before

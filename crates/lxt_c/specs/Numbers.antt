@@ -1,8 +1,9 @@
 -- The answers of the C functions: 0 or the refusal's number, and the numbers of an answer.
 use Prim.Native.Nat.{ℕ}
+use mathlib.Core.Bool.{Bool}
 use mathlib.Core.List.{List, [], _∷_}
 use lib.IntN.{ℤ}
-use Rattle.lxt_format.specs.Basics.{Answer, given, refused}
+use Rattle.lxt_format.specs.Basics.{if_then_else_, Answer, given, refused}
 use Rattle.lxt_format.specs.Answers.{Shown, bitsOf, realOf, textOf, nothing}
 use Rattle.lxt_format.specs.declared.Summary.{Summary}
 use Rattle.lxt_format.specs.declared.Facts.{Facts}
@@ -65,3 +66,8 @@ timeBy (refused k) time before = before
 
 abbrev pub changeTime : ℕ × Answer Shown → ℕ → ℕ
 changeTime a before = timeBy (a .1) (a .0) before
+
+-- carrying on: how many pairs were handed out, and 1 where all pending offsets are 0, else 0; what was there where it is refused
+unfoldable pub carryNumbers : Answer (ℕ × Bool) → List ℕ → List ℕ
+carryNumbers (given a) before = a .0 ∷ (if a .1 then 1 else 0) ∷ []
+carryNumbers (refused k) before = before

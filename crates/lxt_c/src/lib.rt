@@ -16,6 +16,8 @@ use lxt_reader::facilities;
 use lxt_reader::names;
 use lxt_reader::values;
 
+pub mod walk;
+
 // n, C, T and the initial symbol's code; the timescale, which is signed, stands by itself.
 #[no_mangle]
 pub extern "C" fn lxt_judge(file: &[u8], answer: &mut [u32; 4], timescale: &mut i8) -> u32

@@ -162,6 +162,7 @@ pub struct TimedValue {
 
 // A facility's number and an offset: a pair of the walk record, whose offset is the pending one, or
 // a pair that a walk hands out.
+#[repr(C)]
 pub struct Pair {
     pub number: u32,
     pub offset: u32,

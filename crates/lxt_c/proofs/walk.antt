@@ -1,0 +1,2 @@
+-- The rules of the calls that the walk's functions make.
+mod Called
