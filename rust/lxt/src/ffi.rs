@@ -260,5 +260,7 @@ pub(crate) fn carry_on(
     }
 }
 
+#[cfg(all(test, target_os = "linux"))]
+mod guards;
 #[cfg(test)]
 mod tests;
