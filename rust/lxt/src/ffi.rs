@@ -1,9 +1,9 @@
 //! The boundary to the proved functions: every `unsafe` of this crate.
 //!
-//! What include/lxt.h asks of a caller, and how the types below meet it. The tests of this module go by
-//! these names.
+//! What include/lxt.h asks of a caller, and how the types below meet it. The tests in `tests` go by these
+//! names; `guards` has every lent buffer between pages that nothing may touch.
 //!
-//! - **Declared alike**: the declarations are those of the header, number for number.
+//! - **Declared alike**: the declarations are those of the header, argument for argument.
 //! - **Valid**: a pointer is to memory that can be read, and written where it is not `const`, during the
 //!   whole call. Each one comes from a slice, an array or a reference that is borrowed for the call.
 //! - **Length**: the length beside a pointer counts the objects behind it, bytes, pairs or numbers. Both come

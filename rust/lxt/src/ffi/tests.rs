@@ -238,6 +238,32 @@ fn calls_from_several_threads_answer_as_calls_from_one() {
     });
 }
 
+#[test]
+fn calls_run_on_a_thread_with_128_kib_of_stack() {
+    let mut files: Vec<(Vec<u8>, usize)> = small_files(800..900).collect();
+    let shape = lxt_generate::Large {
+        bytes: 300_000,
+        facilities: 4_096,
+        width: 8,
+        entries: 100,
+    };
+    files.push((lxt_generate::large(&shape), 4_096));
+    let run = move || {
+        for (file, n) in &files {
+            let (mut bits, mut pairs, mut output) = (vec![9; 1_030], vec![PAIR; *n], [9; 6]);
+            let answers = all_answers(file, &mut bits, &mut pairs, &mut output);
+            assert_eq!(
+                answers.starts_with("0 "),
+                lxt_reference::judge(file).is_ok()
+            );
+        }
+        files.len()
+    };
+    let thread = std::thread::Builder::new().stack_size(128 << 10);
+    let thread = thread.spawn(run).expect("a thread");
+    assert!(thread.join().expect("its end") > 50);
+}
+
 // ---- Valid, and fixed sizes: what is written, and that nothing else is ----
 
 /// What is lent without a length, with marks on either side.

@@ -73,8 +73,10 @@ fn calls_in_a_run(one: f64, most: usize) -> usize {
 
 fn row(input: &Input, what: &str, times: [f64; 2], calls: usize) {
     let [proved, reference] = times.map(|time| time / calls as f64);
+    let speed = input.file.len() as f64 / proved / 1e6;
+    let places = usize::from(speed < 10.0);
     println!(
-        "| {} | {} | {} | {} | {what} | {} | {} | {:.2} | {:.0} |",
+        "| {} | {} | {} | {} | {what} | {} | {} | {:.2} | {speed:.places$} |",
         input.name,
         grouped(input.file.len()),
         grouped(input.facilities),
@@ -82,7 +84,6 @@ fn row(input: &Input, what: &str, times: [f64; 2], calls: usize) {
         shown(proved),
         shown(reference),
         proved / reference,
-        input.file.len() as f64 / proved / 1e6,
     );
 }
 
