@@ -49,7 +49,7 @@ refusals! {
     14 RealTest "a real facility, and 08 absent, out of bounds or wrong"
     15 ChangePlace "a change starts outside C to T - 1, passes T, or has a previous offset below 0 or from 1 to C - 1"
     16 ChangeBytes "a change's command byte or data"
-    17 SharedByte "two changes, of one root or two, share a byte"
+    17 SharedByte "two changes, of one root or two, share a byte; one offset reached from two roots counts as two changes"
     18 NoFacility "facility number not below n"
     19 NoChange "offset is not on that root's chain"
     20 Record "a pair has a wrong number, or a pending offset not 0 of an alias or whose chain downwards breaks a rule of 15 or 16"
