@@ -253,6 +253,11 @@ pub fn hostile() -> Vec<Case> {
         Err(17),
     ));
     cases.push(case("one long chain", longest_chain(SMALL), Ok(())));
+    cases.push(case(
+        "names, geometry and chain of zeros, 3,270 roots",
+        most_visits(SMALL, 3_270),
+        Err(17),
+    ));
 
     // Aliases: a line, a ring, a line into a ring, one out of a line.
     for n in [2, 300, 2_000] {
@@ -514,4 +519,35 @@ pub fn hostile_large() -> Vec<Case> {
 pub fn widest_sharing(total: usize, widths: u32) -> Vec<u8> {
     let geometry: Vec<Geometry> = (1..=widths).map(bits).collect();
     zero_chain(total, &geometry)
+}
+
+/// A file of `total` bytes whose `n` roots share one chain, and whose names and geometry are bytes of that
+/// chain, too: a region of zeros is empty names, roots of width 1, and 1-bit changes every two bytes. Of its
+/// size it asks for the most visits that we know; they overlap, so it is refused in the end (17).
+pub fn most_visits(total: usize, n: usize) -> Vec<u8> {
+    let mut draft = Draft::new(4);
+    let times = draft.append_words(&[1, 0, 9, 4, 9]);
+    let sync = draft.append(&vec![0; 4 * n]);
+    let low = bottom(&mut draft, 0x03, &[]);
+    // The first name is the change that leads down to the bottom.
+    let names = draft.append_words(&[n as u32, n as u32 + 2]);
+    draft.append(&[0, 0]);
+    let link = change_bytes(draft.end(), low, 0x03, 1, &[]);
+    draft.append(&link);
+    let geometry = draft.append(&[0]) as u32;
+    draft.items = vec![
+        (0x01, low as u32),
+        (0x02, sync as u32),
+        (0x03, names as u32),
+        (0x04, geometry),
+        (0x06, times as u32),
+    ];
+    let zeros = room(&draft, total);
+    draft.append(&vec![0; zeros]);
+    // The newest at an even distance from the others, with a byte of data.
+    let newest = draft.end() - 3 - (draft.end() - 3 - geometry as usize) % 2;
+    for root in 0..n {
+        set_sync(&mut draft, root, newest);
+    }
+    draft.bytes()
 }

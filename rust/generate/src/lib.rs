@@ -7,6 +7,7 @@ mod damage;
 mod dense;
 mod draft;
 mod hostile;
+mod large;
 mod random;
 mod tables;
 mod valid;
@@ -14,7 +15,8 @@ mod valid;
 pub use damage::{blind, Damage, Neighbours, DAMAGES};
 pub use dense::dense;
 pub use draft::{change_bytes, Change, Draft, Facility, Kind, Meant};
-pub use hostile::{hostile, hostile_large, widest_sharing};
+pub use hostile::{hostile, hostile_large, most_visits, widest_sharing};
+pub use large::{large, Large};
 pub use random::Random;
 pub use valid::{pack, valid, valid_of, Shape, REAL_TEST};
 

@@ -286,6 +286,39 @@ fn seeds_are_deterministic() {
 }
 
 #[test]
+fn large_traces_have_their_shape() {
+    for facilities in [1, 122, 900] {
+        for width in [1, 8, 33, 4_096] {
+            let shape = Large {
+                bytes: 200_000,
+                facilities,
+                width,
+                entries: 2_000,
+            };
+            let file = large(&shape);
+            assert!(file.len() <= shape.bytes && file.len() > shape.bytes - 2_100);
+            let judged = reader::Judged::new(&file).expect("a trace");
+            let changes: usize = judged.chains().iter().map(Vec::len).sum();
+            assert_eq!(judged.summary().facilities as usize, facilities);
+            assert_eq!(judged.facts(0).map(|facts| facts.width), Ok(width));
+            assert!(changes > if width == 4_096 { 100 } else { 9_000 });
+            // The times of the oldest and the newest change lie far apart.
+            let mut times = judged.chains().concat();
+            times.sort_unstable();
+            let time = |offset| {
+                let root = judged.chains().iter().position(|it| it.contains(&offset));
+                let root = root.expect("a root") as u32;
+                judged
+                    .change(root, offset, &mut [0; 4_096])
+                    .expect("a change")
+                    .0
+            };
+            assert!(time(times[0]) <= 20 && time(times[changes - 1]) > 15_000);
+        }
+    }
+}
+
+#[test]
 fn hostile_files_are_judged() {
     let cases = hostile();
     for case in &cases {

@@ -1,13 +1,31 @@
 //! Safe bindings to the proved reader of LXT traces.
 //!
+//! [`Trace`] is the way to ask a file that is in memory, and [`Refusal`] what any bytes or question may
+//! be answered instead:
+//!
 //! ```
-//! let file: &[u8] = include_bytes!("../../../traces/gpsim_onereg.lxt");
-//! let summary = lxt::judge(file)?;
-//! assert_eq!(summary.facilities, 1);
-//! # Ok::<(), lxt::Refusal>(())
+//! use lxt::Trace;
+//!
+//! fn main() -> Result<(), Box<dyn std::error::Error>> {
+//!     let bytes = std::fs::read("../../traces/gpsim_onereg.lxt")?;
+//!     let trace = Trace::open(&bytes)?;
+//!     println!("{} facilities", trace.summary().facilities);
+//!     for change in trace.walk_all()? {
+//!         let name = trace.name(change.facility)?;
+//!         let (time, value) = trace.change(change.facility, change.offset)?;
+//!         println!("{time} {} {value:?}", name.escape_ascii());
+//!     }
+//!     Ok(())
+//! }
 //! ```
 //!
-//! All changes of a trace, the newest first, in batches of 64:
+//! Under it stand the functions of the C interface with slices for pointers: [`judge`], [`facts`],
+//! [`root`], [`name`], [`change_before`], [`change`], [`value_at`], [`start_walk`] and [`carry_on`]. They take
+//! any bytes, keep nothing between calls and allocate nothing. Each judges the file anew, whatever was asked
+//! before; only `carry_on` checks less of it, its tables and the changes that are still to come. So many
+//! questions on one large file cost many times its judging, as docs/PERFORMANCE.md has it in figures.
+//!
+//! All changes of a trace in batches of 64, by these functions:
 //!
 //! ```
 //! let file: &[u8] = include_bytes!("../../../traces/gpsim_blink.lxt");
@@ -30,7 +48,17 @@
 //! # Ok::<(), lxt::Refusal>(())
 //! ```
 
+#![deny(unsafe_code)]
+
+#[allow(unsafe_code)]
 mod ffi;
+mod refusal;
+mod trace;
+
+pub use refusal::Refusal;
+pub use trace::{Change, Reading, Trace, Walk};
+
+use refusal::accepted;
 
 /// What judging answers of an accepted file.
 #[derive(Clone, Copy, Debug, PartialEq, Eq)]
@@ -109,50 +137,25 @@ pub struct Pair {
     pub offset: u32,
 }
 
-/// A refused call: the number of the first rule that the file or the question breaks.
-#[derive(Clone, Copy, Debug, PartialEq, Eq)]
-pub struct Refusal(u8);
-
-impl Refusal {
-    pub fn number(self) -> u8 {
-        self.0
-    }
-}
-
-impl std::fmt::Display for Refusal {
-    fn fmt(&self, formatter: &mut std::fmt::Formatter<'_>) -> std::fmt::Result {
-        write!(formatter, "refused {}", self.0)
-    }
-}
-
-impl std::error::Error for Refusal {}
-
 /// Judges a file: any bytes are accepted exactly when the rules say so, or refused by number.
 pub fn judge(file: &[u8]) -> Result<Summary, Refusal> {
     let mut answer = [0; 4];
     let mut timescale = 0;
-    match ffi::judge(file, &mut answer, &mut timescale) {
-        0 => Ok(Summary {
-            facilities: answer[0],
-            changes: answer[1],
-            end: answer[2],
-            timescale,
-            initial: answer[3] as u8,
-        }),
-        number => Err(Refusal(number as u8)),
-    }
+    accepted(ffi::judge(file, &mut answer, &mut timescale))?;
+    Ok(Summary {
+        facilities: answer[0],
+        changes: answer[1],
+        end: answer[2],
+        timescale,
+        initial: answer[3] as u8,
+    })
 }
 
 /// The room that asking for a name needs, in bytes.
 pub const NAME_ROOM: usize = 1_023;
 
-/// Nothing for 0, or the refusal of that number.
-fn accepted(number: u32) -> Result<(), Refusal> {
-    match number {
-        0 => Ok(()),
-        number => Err(Refusal(number as u8)),
-    }
-}
+/// The room that any value of bits has, in bytes.
+pub const WIDEST: usize = 4_096;
 
 /// The facts of a facility; an alias answers its root's.
 ///

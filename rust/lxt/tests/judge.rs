@@ -1,32 +1,9 @@
 //! The proved judge against the independent reader, answer by answer.
 
 use std::collections::BTreeMap;
-use std::fs;
-use std::path::Path;
 
-/// The small trace of paper 01, 95 bytes.
-const TRACE: [u8; 95] = [
-    0x01, 0x38, 0x00, 0x04, 0x04, 0x02, 0x03, 0x00, 0x00, 0x00, 0x00, 0x01, 0x00, 0x00, 0x00, 0x02,
-    0x00, 0x00, 0x61, 0x00, 0x00, 0x00, 0x00, 0x00, 0x00, 0x00, 0x00, 0x00, 0x00, 0x00, 0x00, 0x00,
-    0x00, 0x00, 0x00, 0x00, 0x00, 0x00, 0x00, 0x06, 0x00, 0x00, 0x00, 0x02, 0x00, 0x00, 0x00, 0x00,
-    0x00, 0x00, 0x00, 0x05, 0x00, 0x00, 0x00, 0x04, 0x00, 0x00, 0x00, 0x02, 0x00, 0x00, 0x00, 0x00,
-    0x00, 0x00, 0x00, 0x05, 0x00, 0x00, 0x00, 0x00, 0x04, 0x01, 0x00, 0x00, 0x00, 0x24, 0x02, 0x00,
-    0x00, 0x00, 0x08, 0x03, 0x00, 0x00, 0x00, 0x14, 0x04, 0x00, 0x00, 0x00, 0x28, 0x06, 0xB4,
-];
-
-/// Judges a file both ways and counts the answer: 0 for an accepted file.
-fn compare(file: &[u8], what: &str, seen: &mut BTreeMap<u8, u32>) {
-    let proved = lxt::judge(file).map_err(|refusal| refusal.number());
-    let expected = lxt_reference::judge(file).map(|summary| lxt::Summary {
-        facilities: summary.facilities,
-        changes: summary.changes,
-        end: summary.end,
-        timescale: summary.timescale,
-        initial: summary.initial,
-    });
-    assert_eq!(proved, expected, "{what}");
-    *seen.entry(expected.err().unwrap_or(0)).or_default() += 1;
-}
+use lxt_compare::judge::{compare, TRACE};
+use lxt_compare::traces;
 
 #[test]
 fn every_one_byte_change_of_the_small_trace() {
@@ -68,14 +45,9 @@ fn every_shortening_and_lengthening_of_the_small_trace() {
 
 #[test]
 fn all_traces_of_the_folder() {
-    let folder = Path::new(env!("CARGO_MANIFEST_DIR")).join("../../traces");
     let mut seen = BTreeMap::new();
-    for entry in fs::read_dir(folder).expect("the folder of traces") {
-        let path = entry.expect("an entry of the folder").path();
-        if path.extension().is_some_and(|extension| extension == "lxt") {
-            let file = fs::read(&path).expect("a trace");
-            compare(&file, &path.display().to_string(), &mut seen);
-        }
+    for (name, file) in traces(usize::MAX) {
+        compare(&file, &name, &mut seen);
     }
     println!("{seen:?}");
     assert!(seen[&0] >= 20, "{seen:?}");

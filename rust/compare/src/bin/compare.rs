@@ -1,0 +1,49 @@
+//! Compares all calls about new generated files for so many seconds, or from a seed on:
+//!
+//! ```text
+//! cargo run --release --offline -p lxt-compare -- SECONDS [SEED]
+//! ```
+//!
+//! A difference ends the run with the seed, the call and both answers.
+
+use std::time::{Duration, Instant, SystemTime, UNIX_EPOCH};
+
+use lxt_compare::{Compared, CALLS};
+
+fn main() {
+    let mut words = std::env::args().skip(1);
+    let number = |word: String| word.parse::<u64>().ok();
+    let seconds = words.next().and_then(number);
+    let Some(seconds) = seconds else {
+        eprintln!("compare SECONDS [SEED]");
+        std::process::exit(2);
+    };
+    let first = words.next().and_then(number).unwrap_or_else(|| {
+        let now = SystemTime::now().duration_since(UNIX_EPOCH);
+        // Far from the seeds of the tests.
+        now.map_or(1 << 40, |now| (now.as_nanos() as u64) | 1 << 40)
+    });
+    println!("from seed {first}, {seconds} s");
+
+    let start = Instant::now();
+    let mut compared = Compared::default();
+    let mut seed = first;
+    while start.elapsed() < Duration::from_secs(seconds) {
+        let case = lxt_generate::case(seed);
+        let what = format!("seed {seed}, {}", case.origin);
+        compared.file(&case.bytes, &what);
+        seed = seed.wrapping_add(1);
+    }
+
+    let answers = compared.answers();
+    let calls: u64 = answers.values().sum();
+    println!(
+        "{} files, {calls} calls compared, all alike",
+        compared.files
+    );
+    println!("{:>13}  answered, then refused 1 to 22", "");
+    for call in CALLS {
+        let counts = (0..=22).map(|number| answers.get(&(call, number)).unwrap_or(&0).to_string());
+        println!("{call:>13}  {}", Vec::from_iter(counts).join(" "));
+    }
+}

@@ -1,0 +1,71 @@
+//! All calls about generated files, with each lent slice a piece of the heap of exactly its size, to be
+//! run under a memory checker:
+//!
+//! ```text
+//! cargo build --release --offline -p lxt-compare
+//! valgrind --error-exitcode=1 target/release/exact FILES [SEED]
+//! ```
+
+use lxt::Pair;
+use lxt_reference::Judged;
+
+/// A piece of the heap of exactly so many items.
+fn exact<T: Clone>(item: T, count: usize) -> Box<[T]> {
+    vec![item; count].into_boxed_slice()
+}
+
+/// Makes all calls about a file and gives how many.
+fn all_calls(file: &[u8]) -> u64 {
+    let file: Box<[u8]> = file.into();
+    let judged = Judged::new(&file);
+    let chains = judged.as_ref().map(Judged::chains).unwrap_or_default();
+    let n = chains.len();
+    assert_eq!(lxt::judge(&file).is_ok(), judged.is_ok());
+    let mut calls = 1;
+    for facility in [0, n / 2, n.saturating_sub(1), n] {
+        let facility = facility as u32;
+        let facts = lxt::facts(&file, facility);
+        let root = lxt::root(&file, facility);
+        assert_eq!(facts.is_ok(), (facility as usize) < n);
+        for room in [1_022, lxt::NAME_ROOM] {
+            let _ = lxt::name(&file, facility, &mut exact(0, room));
+        }
+        let width = facts.map_or(8, |facts| facts.width as usize);
+        let chain = root.map_or(&[][..], |root| &chains[root as usize]);
+        let some = [Some(&5), chain.first(), chain.last()];
+        for offset in some.into_iter().flatten() {
+            let _ = lxt::change_before(&file, facility, *offset);
+            for room in [width.saturating_sub(1), width] {
+                let _ = lxt::change(&file, facility, *offset, &mut exact(0, room));
+                let _ = lxt::value_at(&file, facility, *offset, &mut exact(0, room));
+                calls += 2;
+            }
+            calls += 1;
+        }
+        calls += 4;
+    }
+    for count in [n.saturating_sub(1), n] {
+        let mut pairs = exact(Pair::default(), count);
+        let _ = lxt::start_walk(&file, &exact(1, count), &mut pairs);
+        for (size, room) in [(2, 3), (1, 2), (0, 0), (500, 1_000)] {
+            let _ = lxt::carry_on(&file, &mut pairs, size, &mut exact(0, room));
+            calls += 1;
+        }
+        calls += 1;
+    }
+    calls
+}
+
+fn main() {
+    let numbers: Vec<u64> = std::env::args()
+        .skip(1)
+        .filter_map(|word| word.parse().ok())
+        .collect();
+    let files = numbers.first().copied().unwrap_or(200);
+    let first = numbers.get(1).copied().unwrap_or(1 << 32);
+    let mut calls = 0;
+    for seed in first..first + files {
+        calls += all_calls(&lxt_generate::case(seed).bytes);
+    }
+    println!("{files} files, {calls} calls");
+}

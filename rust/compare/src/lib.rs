@@ -1,0 +1,118 @@
+//! Compares the proved functions with the independent reader, call by call: every answer, and all of
+//! the lent memory and around it. A difference panics with what is needed to repeat it.
+
+#![forbid(unsafe_code)]
+
+pub mod judge;
+pub mod questions;
+pub mod walk;
+
+use std::collections::BTreeMap;
+use std::fs;
+use std::ops::Range;
+use std::path::Path;
+
+/// The traces of the folder by name, those of at most so many bytes.
+pub fn traces(longest: usize) -> Vec<(String, Vec<u8>)> {
+    let folder = Path::new(env!("CARGO_MANIFEST_DIR")).join("../../traces");
+    let mut traces = Vec::new();
+    for entry in fs::read_dir(folder).expect("the folder of traces") {
+        let path = entry.expect("an entry of the folder").path();
+        if path.extension().is_some_and(|extension| extension == "lxt") {
+            let file = fs::read(&path).expect("a trace");
+            if file.len() <= longest {
+                let name = path.file_name().expect("a name").to_string_lossy();
+                traces.push((name.into_owned(), file));
+            }
+        }
+    }
+    traces.sort();
+    traces
+}
+
+/// Generated files by their origin, those of so many bytes at most.
+pub fn generated(seeds: Range<u64>, longest: usize) -> impl Iterator<Item = (String, Vec<u8>)> {
+    seeds.filter_map(move |seed| {
+        let case = lxt_generate::case(seed);
+        let what = format!("seed {seed}, {}", case.origin);
+        (case.bytes.len() <= longest).then_some((what, case.bytes))
+    })
+}
+
+/// The nine calls.
+pub const CALLS: [&str; 9] = [
+    "judge",
+    "facts",
+    "root",
+    "name",
+    "change_before",
+    "change",
+    "value_at",
+    "start",
+    "carry on",
+];
+
+/// Whether a call can give a refusal: one of the checks of the file that it makes, or of its question.
+pub fn can_refuse(call: &str, number: u8) -> bool {
+    let file = match call {
+        "carry on" => 1..=14,
+        _ => 1..=17,
+    };
+    let question: &[u8] = match call {
+        "judge" => &[],
+        "facts" | "root" => &[18],
+        "name" | "value_at" => &[18, 21],
+        "change_before" => &[18, 19],
+        "change" => &[18, 19, 21],
+        "start" => &[21, 22],
+        _ => &[20, 21],
+    };
+    file.contains(&number) || question.contains(&number)
+}
+
+/// Files about which all calls were compared, and what was seen.
+#[derive(Default)]
+pub struct Compared {
+    pub files: u64,
+    judged: BTreeMap<u8, u32>,
+    questions: questions::Seen,
+    walks: walk::Seen,
+}
+
+impl Compared {
+    /// Compares all calls about a file. Of a large one only some facilities and changes are asked about.
+    pub fn file(&mut self, file: &[u8], what: &str) {
+        let (facilities, changes) = match file.len() {
+            0..=800 => (usize::MAX, usize::MAX),
+            801..=4_000 => (6, 4),
+            _ => (3, 3),
+        };
+        let most = questions::Most {
+            facilities,
+            changes,
+        };
+        self.files += 1;
+        judge::compare(file, what, &mut self.judged);
+        questions::compare(file, what, most, &mut self.questions);
+        walk::start_refusals(file, what, &mut self.walks);
+        if file.len() <= 30_000 {
+            walk::whole_walks(file, what, &mut self.walks);
+            walk::wider(file, what, &mut self.walks);
+        }
+        if file.len() <= 3_000 {
+            walk::altered_records(file, what, &mut self.walks);
+        }
+    }
+
+    /// How many times each call gave each answer: 0, or a refusal's number.
+    pub fn answers(&self) -> BTreeMap<(&'static str, u8), u64> {
+        let mut answers = BTreeMap::new();
+        let judged = self.judged.iter();
+        let judged = judged.map(|(number, count)| ("judge", *number, u64::from(*count)));
+        let others = self.questions.answers().chain(self.walks.answers());
+        for (call, number, count) in judged.chain(others) {
+            *answers.entry((call, number)).or_default() += count;
+        }
+        answers
+    }
+}

@@ -1,0 +1,316 @@
+//! The proved single questions against the independent reader: every answer, and every byte of the
+//! lent memory and around it.
+
+use std::collections::{BTreeMap, BTreeSet};
+use std::fmt::Debug;
+
+use lxt::Refusal;
+use lxt_reference::Judged;
+
+/// Bytes on either side of a lent part, which nothing may write.
+const AROUND: usize = 8;
+
+pub const QUESTIONS: [&str; 6] = [
+    "facts",
+    "root",
+    "name",
+    "change_before",
+    "change",
+    "value_at",
+];
+
+/// Rooms for a name: one less than needed, exactly that, more, and none.
+const NAME_ROOMS: [usize; 4] = [1_022, 1_023, 1_032, 0];
+
+/// A buffer of marks, none of them a symbol, with a lent part of `room` bytes in its middle.
+fn marked(room: usize) -> Vec<u8> {
+    let mark = |at: usize| 0x80 | (at * 37 + 5) as u8;
+    (0..AROUND + room + AROUND).map(mark).collect()
+}
+
+fn lent(buffer: &mut [u8]) -> &mut [u8] {
+    let end = buffer.len() - AROUND;
+    &mut buffer[AROUND..end]
+}
+
+/// How many of a file's facilities, and of a chain's changes, are asked about.
+#[derive(Clone, Copy)]
+pub struct Most {
+    pub facilities: usize,
+    pub changes: usize,
+}
+
+pub const ALL: Most = Most {
+    facilities: usize::MAX,
+    changes: usize::MAX,
+};
+
+/// At most so many of a list, evenly, with its first and last one.
+fn sample(list: &[u32], most: usize) -> Vec<u32> {
+    if list.len() <= most {
+        return list.to_vec();
+    }
+    let of = |place: usize| list[place * (list.len() - 1) / (most - 1)];
+    (0..most).map(of).collect()
+}
+
+fn plain(value: lxt::Value) -> lxt_reference::Value {
+    match value {
+        lxt::Value::Bits { width } => lxt_reference::Value::Bits { width },
+        lxt::Value::Real { number, bits } => {
+            assert_eq!(number.to_bits(), bits);
+            lxt_reference::Value::Real { bits }
+        }
+        lxt::Value::Text { start, length } => lxt_reference::Value::Text { start, length },
+        lxt::Value::NotDriven => lxt_reference::Value::NotDriven,
+    }
+}
+
+fn sort_of(value: &lxt_reference::Value) -> &'static str {
+    match value {
+        lxt_reference::Value::Bits { .. } => "bits",
+        lxt_reference::Value::Real { .. } => "real",
+        lxt_reference::Value::Text { .. } => "text",
+        lxt_reference::Value::NotDriven => "not driven",
+    }
+}
+
+/// What was compared: the questions by their answer's sort or their refusal's number.
+#[derive(Default)]
+pub struct Seen(BTreeMap<(&'static str, &'static str, u8), u64>);
+
+impl Seen {
+    pub fn count(&self, question: &str, sort: &str, number: u8) -> u64 {
+        let of = |key: &(&str, &str, u8)| *key == (question, sort, number);
+        let counts = self.0.iter().filter(|(key, _)| of(key));
+        counts.map(|(_, count)| count).sum()
+    }
+
+    /// How many times each question got an answer, as 0, or a refusal, as its number.
+    pub fn answers(&self) -> impl Iterator<Item = (&'static str, u8, u64)> + '_ {
+        let counts = self.0.iter();
+        counts.map(|((question, _, number), count)| (*question, *number, *count))
+    }
+
+    pub fn report(&self, what: &str) {
+        let total: u64 = self.0.values().sum();
+        println!("{what}: {total} questions {:?}", self.0);
+    }
+}
+
+/// A file, what the independent reader knows about it, and what was compared.
+struct Asked<'a> {
+    file: &'a [u8],
+    judged: Result<Judged<'a>, u8>,
+    what: &'a str,
+    seen: &'a mut Seen,
+}
+
+impl<'a> Asked<'a> {
+    fn new(file: &'a [u8], what: &'a str, seen: &'a mut Seen) -> Self {
+        Asked {
+            file,
+            judged: Judged::new(file),
+            what,
+            seen,
+        }
+    }
+
+    fn expect<T>(&self, ask: impl FnOnce(&Judged) -> Result<T, u8>) -> Result<T, u8> {
+        match &self.judged {
+            Ok(judged) => ask(judged),
+            Err(number) => Err(*number),
+        }
+    }
+
+    /// Compares two answers with all bytes lent for them.
+    fn same<T: PartialEq + Debug>(
+        &mut self,
+        question: (&'static str, &[u32]),
+        sort: fn(&T) -> &'static str,
+        proved: (Result<T, Refusal>, &[u8]),
+        expected: (Result<T, u8>, &[u8]),
+    ) {
+        let answer = proved.0.map_err(Refusal::number);
+        let key = match &expected.0 {
+            Ok(answer) => (question.0, sort(answer), 0),
+            Err(number) => (question.0, "refused", *number),
+        };
+        *self.seen.0.entry(key).or_default() += 1;
+        if answer != expected.0 || proved.1 != expected.1 {
+            panic!(
+                "{question:?} of {}\nproved {answer:?} {:02X?}\nexpected {:?} {:02X?}\nfile {:02X?}",
+                self.what,
+                proved.1,
+                expected.0,
+                expected.1,
+                &self.file[..self.file.len().min(10_000)]
+            );
+        }
+    }
+
+    fn root(&mut self, facility: u32) {
+        let proved = lxt::root(self.file, facility);
+        let expected = self.expect(|judged| judged.root(facility));
+        self.same(
+            ("root", &[facility]),
+            |_| "number",
+            (proved, &[]),
+            (expected, &[]),
+        );
+    }
+
+    fn name(&mut self, facility: u32, room: usize) {
+        let (mut ours, mut theirs) = (marked(room), marked(room));
+        let proved = lxt::name(self.file, facility, lent(&mut ours)).map(<[u8]>::to_vec);
+        let expected = self.expect(|judged| {
+            let length = judged.name(facility, lent(&mut theirs))?;
+            assert_eq!(
+                lent(&mut theirs)[..length],
+                judged.name_of(facility)[..length]
+            );
+            Ok(judged.name_of(facility).to_vec())
+        });
+        self.same(
+            ("name", &[facility, room as u32]),
+            |_| "name",
+            (proved, &ours),
+            (expected, &theirs),
+        );
+    }
+
+    fn change_before(&mut self, facility: u32, offset: u32) {
+        let proved = lxt::change_before(self.file, facility, offset);
+        let expected = self.expect(|judged| judged.change_before(facility, offset));
+        self.same(
+            ("change_before", &[facility, offset]),
+            |_| "number",
+            (proved, &[]),
+            (expected, &[]),
+        );
+    }
+
+    fn value_at(&mut self, facility: u32, time: u32, room: usize) {
+        let (mut ours, mut theirs) = (marked(room), marked(room));
+        let proved = lxt::value_at(self.file, facility, time, lent(&mut ours)).map(plain);
+        let expected = self.expect(|judged| judged.value_at(facility, time, lent(&mut theirs)));
+        self.same(
+            ("value_at", &[facility, time, room as u32]),
+            sort_of,
+            (proved, &ours),
+            (expected, &theirs),
+        );
+    }
+
+    fn facts(&mut self, facility: u32) {
+        let proved = lxt::facts(self.file, facility).map(|facts| lxt_reference::Facts {
+            width: facts.width,
+            msb: facts.msb,
+            lsb: facts.lsb,
+            kind: match facts.kind {
+                lxt::Kind::Bits => lxt_reference::Kind::Bits,
+                lxt::Kind::Integer => lxt_reference::Kind::Integer,
+                lxt::Kind::Real => lxt_reference::Kind::Real,
+                lxt::Kind::Text => lxt_reference::Kind::Text,
+            },
+        });
+        let expected = self.expect(|judged| judged.facts(facility));
+        self.same(
+            ("facts", &[facility]),
+            |facts| match facts.kind {
+                lxt_reference::Kind::Bits => "bits",
+                lxt_reference::Kind::Integer => "integer",
+                lxt_reference::Kind::Real => "real",
+                lxt_reference::Kind::Text => "text",
+            },
+            (proved, &[]),
+            (expected, &[]),
+        );
+    }
+
+    fn change(&mut self, facility: u32, offset: u32, room: usize) {
+        let (mut ours, mut theirs) = (marked(room), marked(room));
+        let proved = lxt::change(self.file, facility, offset, lent(&mut ours))
+            .map(|(time, value)| (time, plain(value)));
+        let expected = self.expect(|judged| judged.change(facility, offset, lent(&mut theirs)));
+        self.same(
+            ("change", &[facility, offset, room as u32]),
+            |(_, value)| sort_of(value),
+            (proved, &ours),
+            (expected, &theirs),
+        );
+    }
+
+    /// Every question about a facility, at these offsets, times and rooms.
+    fn facility(&mut self, facility: u32, offsets: &[u32], times: &[u32], rooms: &[usize]) {
+        self.root(facility);
+        self.facts(facility);
+        for room in NAME_ROOMS {
+            self.name(facility, room);
+        }
+        for &offset in offsets {
+            self.change_before(facility, offset);
+            for &room in rooms {
+                self.change(facility, offset, room);
+            }
+        }
+        for &time in times {
+            for &room in rooms {
+                self.value_at(facility, time, room);
+            }
+        }
+    }
+}
+
+/// One less, the number itself and one more, for each, and the ends of the range.
+fn around(numbers: &[u32]) -> BTreeSet<u32> {
+    let mut all = BTreeSet::from([0, u32::MAX]);
+    for number in numbers {
+        all.extend([number.saturating_sub(1), *number, number.saturating_add(1)]);
+    }
+    all
+}
+
+/// Asks every question about a file, of all facilities and changes or so many of them.
+pub fn compare(file: &[u8], what: &str, most: Most, seen: &mut Seen) {
+    let mut asked = Asked::new(file, what, seen);
+    let Ok(judged) = &asked.judged else {
+        for facility in [0, 1, u32::MAX] {
+            asked.facility(facility, &[0, 10, u32::MAX], &[0, u32::MAX], &[0, 40]);
+        }
+        return;
+    };
+    let summary = judged.summary();
+    let chains = judged.chains();
+    let facilities: Vec<u32> = (0..summary.facilities).collect();
+    let mut plans = Vec::new();
+    for facility in sample(&facilities, most.facilities) {
+        let root = judged.root(facility).expect("a root") as usize;
+        let facts = judged.facts(facility).expect("facts");
+        let own = sample(&chains[root], most.changes);
+        // The time of a change is asked of the reader, with room for every value.
+        let mut room = vec![0; facts.width as usize];
+        let time = |offset: &u32| judged.change(facility, *offset, &mut room).expect("time").0;
+        let times: Vec<u32> = own.iter().map(time).collect();
+
+        let mut offsets = around(&own);
+        offsets.extend(around(&[summary.changes, summary.end]));
+        // Another root's last change is not on this chain.
+        let other = (root + 1..chains.len()).chain(0..root);
+        let other = other.filter_map(|number| chains[number].first());
+        offsets.extend(other.take(1));
+
+        let width = facts.width as usize;
+        let rooms = BTreeSet::from([width.saturating_sub(1), width, width + 5]);
+        plans.push((facility, offsets, around(&times), rooms));
+    }
+    for facility in [summary.facilities, u32::MAX] {
+        let numbers = around(&[summary.changes]);
+        plans.push((facility, numbers.clone(), numbers, BTreeSet::from([0, 40])));
+    }
+    for (facility, offsets, times, rooms) in plans {
+        let offsets = Vec::from_iter(offsets);
+        let times = Vec::from_iter(times);
+        asked.facility(facility, &offsets, &times, &Vec::from_iter(rooms));
+    }
+}

@@ -1,0 +1,89 @@
+//! Large valid traces of a given shape, for measuring.
+
+use crate::draft::Draft;
+use crate::random::Random;
+use crate::valid::pack;
+
+/// A trace whose facilities change in any order, with named facilities all of one width.
+#[derive(Clone, Copy, Debug)]
+pub struct Large {
+    /// The length of the file, at most.
+    pub bytes: usize,
+    pub facilities: usize,
+    pub width: u32,
+    /// The number of time entries.
+    pub entries: usize,
+}
+
+/// The file of a shape that leaves room for changes.
+pub fn large(shape: &Large) -> Vec<u8> {
+    let mut random = Random::new(shape.facilities as u64);
+    let n = shape.facilities;
+    let mut draft = Draft::new(4);
+
+    let mut names = Vec::new();
+    let mut memory = 0;
+    let mut before = String::new();
+    for facility in 0..n {
+        let name = format!("top.block_{}.signal_{facility}", facility / 16);
+        let kept = name.bytes().zip(before.bytes());
+        let kept = kept.take_while(|(one, other)| one == other).count();
+        names.extend((kept as u16).to_be_bytes());
+        names.extend(name[kept..].bytes());
+        names.push(0);
+        memory += name.len() as u32 + 1;
+        before = name;
+    }
+    let names_at = draft.append_words(&[n as u32, memory]);
+    draft.append(&names);
+    let geometry = draft.end();
+    for _ in 0..n {
+        draft.append_words(&[0, shape.width - 1, 0, 0]);
+    }
+    let sync = draft.append(&vec![0; 4 * n]);
+    let times = draft.append_words(&[shape.entries as u32, 0, u32::MAX]);
+    draft.append(&vec![0; 8 * shape.entries]);
+    let changes = draft.end();
+    draft.items = vec![
+        (0x01, changes as u32),
+        (0x02, sync as u32),
+        (0x03, names_at as u32),
+        (0x04, geometry as u32),
+        (0x06, times as u32),
+    ];
+
+    // Behind the body: END, five items, B4.
+    let end = shape.bytes - (1 + 5 * 5 + 1);
+    let width = shape.width as usize;
+    // A change of 4-bit symbols is the longest.
+    while draft.end() + 5 + width.div_ceil(2) <= end {
+        let root = random.below(n);
+        let command = random.pick(&[0, 0, 0, 0, 1, 2, 3, 4, 4, 6]);
+        let (symbol, codes) = [(1, 2), (2, 4), (4, 9)]
+            .get(command)
+            .copied()
+            .unwrap_or((0, 0));
+        let data = match symbol {
+            0 => Vec::new(),
+            _ => {
+                let codes: Vec<u8> = (0..width).map(|_| random.below(codes) as u8).collect();
+                pack(&codes, symbol)
+            }
+        };
+        draft.append_change(root, command as u8, 1, &data);
+    }
+
+    // Entries evenly over the changes.
+    let room = draft.end() - changes;
+    let position = |entry: usize| changes + entry * room / shape.entries;
+    for entry in 0..shape.entries {
+        let step = match entry {
+            0 => changes,
+            _ => position(entry) - position(entry - 1),
+        };
+        draft.set_word(times + 12 + 4 * entry, step as u32);
+        let time = times + 12 + 4 * (shape.entries + entry);
+        draft.set_word(time, random.within(1, 20) as u32);
+    }
+    draft.bytes()
+}

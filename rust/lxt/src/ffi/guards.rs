@@ -1,0 +1,363 @@
+//! All calls with every lent buffer between two pages that nothing may touch, exactly at the one or the
+//! other, and with what is lent to be read in memory that cannot be written. A read or write outside of
+//! what was lent ends the test run with a signal.
+
+use std::ffi::{c_int, c_void};
+use std::marker::PhantomData;
+
+use crate::Pair;
+use lxt_generate::Random;
+use lxt_reference::{Judged, Value};
+
+extern "C" {
+    fn mmap(
+        at: *mut c_void,
+        size: usize,
+        may: c_int,
+        how: c_int,
+        of: c_int,
+        from: i64,
+    ) -> *mut c_void;
+    fn mprotect(at: *mut c_void, size: usize, may: c_int) -> c_int;
+    fn munmap(at: *mut c_void, size: usize) -> c_int;
+}
+
+const NOTHING: c_int = 0;
+const READ: c_int = 1;
+const READ_AND_WRITE: c_int = 3;
+/// Private memory of no file, on Linux.
+const PRIVATE_MEMORY: c_int = 0x22;
+/// A multiple of the size of a page.
+const PAGE: usize = 65_536;
+
+/// Where a lent buffer stands: its first byte right behind a guard page, or its last right before one.
+#[derive(Clone, Copy, Debug, PartialEq, Eq)]
+enum Place {
+    First,
+    Last,
+}
+
+/// Memory for so many bytes between two guard pages.
+struct Guarded<T> {
+    start: *mut u8,
+    /// Of the memory between the guard pages.
+    size: usize,
+    of: PhantomData<T>,
+}
+
+impl<T: Copy> Guarded<T> {
+    fn new(most: usize) -> Self {
+        let size = (most * size_of::<T>()).next_multiple_of(PAGE).max(PAGE);
+        let all = size + 2 * PAGE;
+        // SAFETY: new memory, of which nothing may be touched, and then the part between the guards.
+        let start = unsafe {
+            let at = mmap(std::ptr::null_mut(), all, NOTHING, PRIVATE_MEMORY, -1, 0);
+            assert_ne!(at as isize, -1);
+            let start = at.cast::<u8>().add(PAGE);
+            assert_eq!(mprotect(start.cast(), size, READ_AND_WRITE), 0);
+            start
+        };
+        Guarded {
+            start,
+            size,
+            of: PhantomData,
+        }
+    }
+
+    fn allow(&mut self, may: c_int) {
+        // SAFETY: the part between the guards, which no reference is to.
+        assert_eq!(unsafe { mprotect(self.start.cast(), self.size, may) }, 0);
+    }
+
+    /// These, to be read and written.
+    fn lend(&mut self, items: &[T], place: Place) -> &mut [T] {
+        let room = size_of_val(items);
+        assert!(room <= self.size);
+        let skipped = match place {
+            Place::First => 0,
+            Place::Last => self.size - room,
+        };
+        self.allow(READ_AND_WRITE);
+        // SAFETY: the items fit between the guards, their start is a page's or a multiple of their size
+        // before one, all bytes have a value, and the slice borrows the memory.
+        unsafe {
+            let at = self.start.add(skipped).cast::<T>();
+            assert!(at.is_aligned());
+            std::ptr::copy_nonoverlapping(items.as_ptr(), at, items.len());
+            std::slice::from_raw_parts_mut(at, items.len())
+        }
+    }
+
+    /// These, to be read only.
+    fn lend_to_read(&mut self, items: &[T], place: Place) -> &[T] {
+        let lent = self.lend(items, place);
+        let (at, count) = (lent.as_ptr(), lent.len());
+        self.allow(READ);
+        // SAFETY: the slice just made, which borrows the memory.
+        unsafe { std::slice::from_raw_parts(at, count) }
+    }
+}
+
+impl<T> Drop for Guarded<T> {
+    fn drop(&mut self) {
+        // SAFETY: what `new` mapped, which nothing borrows any more.
+        unsafe {
+            let at = self.start.sub(PAGE);
+            assert_eq!(munmap(at.cast(), self.size + 2 * PAGE), 0);
+        }
+    }
+}
+
+/// Guarded memory for what the calls are lent.
+struct Lent {
+    file: Guarded<u8>,
+    asked: Guarded<u8>,
+    bytes: Guarded<u8>,
+    pairs: Guarded<Pair>,
+    output: Guarded<u32>,
+    /// Arrays and single numbers.
+    four: Guarded<[u32; 4]>,
+    three: Guarded<[u64; 3]>,
+    two: Guarded<[u32; 2]>,
+    one: Guarded<u32>,
+    msb: Guarded<i32>,
+    lsb: Guarded<i32>,
+    scale: Guarded<i8>,
+}
+
+impl Lent {
+    fn new(longest: usize) -> Self {
+        Lent {
+            file: Guarded::new(longest),
+            asked: Guarded::new(8_192),
+            bytes: Guarded::new(8_192),
+            pairs: Guarded::new(8_192),
+            output: Guarded::new(16_384),
+            four: Guarded::new(1),
+            three: Guarded::new(1),
+            two: Guarded::new(1),
+            one: Guarded::new(1),
+            msb: Guarded::new(1),
+            lsb: Guarded::new(1),
+            scale: Guarded::new(1),
+        }
+    }
+}
+
+const MARK: u32 = 0xAAAA_AAAA;
+
+fn numbers(value: Value) -> [u64; 3] {
+    match value {
+        Value::Bits { width } => [0, width.into(), 0],
+        Value::Real { bits } => [1, bits, 0],
+        Value::Text { start, length } => [2, start.into(), length.into()],
+        Value::NotDriven => [3, 0, 0],
+    }
+}
+
+/// What a call is to leave: its answer and 0, or what was lent and the refusal.
+fn after<T>(expected: Result<T, u8>, lent: T) -> (u32, T) {
+    match expected {
+        Ok(answer) => (0, answer),
+        Err(number) => (number.into(), lent),
+    }
+}
+
+/// All calls about a file with guarded memory, compared with the independent reader. Gives how many.
+fn all_calls(file: &[u8], lent: &mut Lent, place: Place) -> u64 {
+    let judged = Judged::new(file);
+    let judged = judged.as_ref().map_err(|number| *number);
+    let chains = judged.map(Judged::chains).unwrap_or_default();
+    let n = chains.len();
+    let mut random = Random::new(file.len() as u64);
+    let mut calls = 0;
+    let file = lent.file.lend_to_read(file, place);
+
+    let four = &mut lent.four.lend(&[[MARK; 4]], place)[0];
+    let scale = &mut lent.scale.lend(&[99], place)[0];
+    let number = super::judge(file, four, scale);
+    let summary = judged.map(Judged::summary);
+    let expected = summary.map(|it| {
+        let four = [it.facilities, it.changes, it.end, it.initial.into()];
+        (four, it.timescale)
+    });
+    assert_eq!((number, (*four, *scale)), after(expected, ([MARK; 4], 99)));
+    calls += 1;
+
+    let last = n.saturating_sub(1) as u32;
+    for facility in [0, random.below(n.max(1)) as u32, last, n as u32, u32::MAX] {
+        let two = &mut lent.two.lend(&[[MARK; 2]], place)[0];
+        let msb = &mut lent.msb.lend(&[7], place)[0];
+        let lsb = &mut lent.lsb.lend(&[7], place)[0];
+        let number = super::facts(file, facility, two, msb, lsb);
+        let facts = judged.and_then(|it| it.facts(facility));
+        let width = facts.map_or(40, |it| it.width as usize);
+        let expected = facts.map(|it| ([it.width, it.kind as u32], it.msb, it.lsb));
+        assert_eq!(
+            (number, (*two, *msb, *lsb)),
+            after(expected, ([MARK; 2], 7, 7))
+        );
+
+        let one = &mut lent.one.lend(&[MARK], place)[0];
+        let number = super::root(file, facility, one);
+        let root = judged.and_then(|it| it.root(facility));
+        assert_eq!((number, *one), after(root, MARK));
+
+        for room in [1_022, 1_023, 1_024] {
+            let one = &mut lent.one.lend(&[MARK], place)[0];
+            let mut names = vec![0xA5; room];
+            let lent = lent.bytes.lend(&names, place);
+            let number = super::name(file, facility, lent, one);
+            let expected = judged.and_then(|it| it.name(facility, &mut names));
+            assert_eq!((number, *one), after(expected.map(|it| it as u32), MARK));
+            assert_eq!(lent, names);
+        }
+
+        let chain = root.map_or(&[][..], |root| &chains[root as usize]);
+        let mut offsets = vec![0, u32::MAX];
+        offsets.extend(summary.map_or(6, |it| it.end).checked_sub(1));
+        offsets.extend(chain.first());
+        offsets.extend(chain.last());
+        for offset in offsets {
+            let one = &mut lent.one.lend(&[MARK], place)[0];
+            let number = super::change_before(file, facility, offset, one);
+            let expected = judged.and_then(|it| it.change_before(facility, offset));
+            assert_eq!((number, *one), after(expected, MARK));
+
+            for room in [width.saturating_sub(1), width] {
+                let marked = vec![0xA5; room];
+                let one = &mut lent.one.lend(&[MARK], place)[0];
+                let three = &mut lent.three.lend(&[[77; 3]], place)[0];
+                let bits = lent.bytes.lend(&marked, place);
+                let number = super::change(file, facility, offset, bits, one, three);
+                let mut room = marked.clone();
+                let expected = judged.and_then(|it| it.change(facility, offset, &mut room));
+                let time = expected.map(|(time, _)| time);
+                let value = expected.map(|(_, value)| numbers(value));
+                assert_eq!((number, *one), after(time, MARK));
+                assert_eq!((number, *three), after(value, [77; 3]));
+                assert_eq!(bits, room);
+
+                let three = &mut lent.three.lend(&[[77; 3]], place)[0];
+                let bits = lent.bytes.lend(&marked, place);
+                let number = super::value_at(file, facility, offset, bits, three);
+                let mut room = marked;
+                let expected = judged.and_then(|it| it.value_at(facility, offset, &mut room));
+                assert_eq!((number, *three), after(expected.map(numbers), [77; 3]));
+                assert_eq!(bits, room);
+                calls += 3;
+            }
+        }
+        calls += 5;
+    }
+
+    // Walks with exactly n asked bytes and pairs, and one less; carrying on with exactly enough output.
+    for less in [1, 0] {
+        let count = n.saturating_sub(less);
+        let asked: Vec<u8> = (0..count).map(|_| random.pick(&[0, 1, 1, 255])).collect();
+        let marks = Pair {
+            number: MARK,
+            offset: MARK,
+        };
+        let pairs = lent.pairs.lend(&vec![marks; count], place);
+        let asked = lent.asked.lend_to_read(&asked, place);
+        let (mut numbers, mut offsets) = (vec![MARK; count], vec![MARK; count]);
+        let number = super::start_walk(file, asked, pairs);
+        let expected = lxt_reference::start_walk(file, asked, &mut numbers, &mut offsets);
+        assert_eq!(number, after(expected, ()).0);
+        for size in [0, 1, 9, 4_000] {
+            for room in [(2 * size as usize).saturating_sub(1), 2 * size as usize] {
+                let mut marked = vec![MARK; room];
+                let output = lent.output.lend(&marked, place);
+                let two = &mut lent.two.lend(&[[MARK; 2]], place)[0];
+                let number = super::carry_on(file, pairs, size, output, two);
+                let expected = lxt_reference::carry_on(
+                    file,
+                    &mut numbers,
+                    &mut offsets,
+                    &mut marked,
+                    size.into(),
+                );
+                let expected = expected.map(|(count, done)| [count, done.into()]);
+                assert_eq!((number, *two), after(expected, [MARK; 2]));
+                assert_eq!(output, marked);
+                let ours = pairs.iter().map(|it| (it.number, it.offset));
+                let theirs = numbers.iter().copied().zip(offsets.iter().copied());
+                assert!(ours.eq(theirs));
+                calls += 1;
+            }
+        }
+        calls += 1;
+    }
+    calls
+}
+
+#[test]
+fn calls_stay_within_what_they_are_lent() {
+    let mut files: Vec<(String, Vec<u8>)> = Vec::new();
+    for seed in 300_000..302_500 {
+        let case = lxt_generate::case(seed);
+        files.push((format!("seed {seed}, {}", case.origin), case.bytes));
+    }
+    for case in lxt_generate::hostile() {
+        if case.bytes.len() < 20_000 {
+            files.push((case.origin, case.bytes));
+        }
+    }
+    let trace = include_bytes!("../../../../traces/gpsim_onereg.lxt");
+    for length in 0..=trace.len() {
+        files.push((format!("{length} bytes"), trace[..length].to_vec()));
+    }
+
+    let longest = files.iter().map(|(_, file)| file.len()).max();
+    let mut lent = Lent::new(longest.unwrap_or(0));
+    let (mut calls, mut accepted) = (0, 0);
+    for (what, file) in &files {
+        // Shown where a signal ends the run and the output is not captured.
+        println!("{what}");
+        for place in [Place::First, Place::Last] {
+            calls += all_calls(file, &mut lent, place);
+        }
+        accepted += u64::from(lxt_reference::judge(file).is_ok());
+    }
+    assert!(calls > 200_000, "{calls}");
+    assert!(accepted > 800, "{accepted}");
+}
+
+/// What the test below does in a process of its own; each is to end it.
+fn touch(what: &str) {
+    let mut guarded = Guarded::<u8>::new(100);
+    let place = match what {
+        "before" => Place::First,
+        _ => Place::Last,
+    };
+    let lent = guarded.lend_to_read(&[1; 100], place);
+    assert_eq!(lent.iter().map(|it| u32::from(*it)).sum::<u32>(), 100);
+    let at = lent.as_ptr();
+    // SAFETY: none; that is the point.
+    unsafe {
+        match what {
+            "before" => println!("{}", std::hint::black_box(at.sub(1)).read_volatile()),
+            "behind" => println!("{}", std::hint::black_box(at.add(100)).read_volatile()),
+            _ => std::hint::black_box(at.cast_mut()).write_volatile(2),
+        }
+    }
+}
+
+#[test]
+fn guards_end_what_touches_them() {
+    const TOUCH: &str = "LXT_TEST_TOUCHES";
+    if let Ok(what) = std::env::var(TOUCH) {
+        return touch(&what);
+    }
+    let name = "ffi::guards::guards_end_what_touches_them";
+    for what in ["before", "behind", "written"] {
+        let tests = std::env::current_exe().expect("the tests");
+        let mut process = std::process::Command::new(tests);
+        let ended = process.args(["--exact", name]).env(TOUCH, what).output();
+        let ended = ended.expect("a process of its own").status;
+        // SIGSEGV, or SIGBUS where a system has that for it.
+        let signal = std::os::unix::process::ExitStatusExt::signal(&ended);
+        assert!(matches!(signal, Some(11 | 7 | 10)), "{what}: {ended:?}");
+    }
+}

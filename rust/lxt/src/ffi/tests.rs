@@ -1,0 +1,522 @@
+use super::judge;
+use crate::Pair;
+use lxt_reference::{Judged, Value};
+
+// ---- Declared alike ----
+
+/// A type of the header as Rust writes it.
+fn rust_type(words: &str) -> String {
+    let words = words.trim();
+    if let Some(target) = words.strip_suffix('*') {
+        return match target.trim().strip_prefix("const ") {
+            Some(target) => format!("*const {}", rust_type(target)),
+            None => format!("*mut {}", rust_type(target)),
+        };
+    }
+    match words {
+        "size_t" => "usize".to_string(),
+        "lxt_pair" => "Pair".to_string(),
+        _ => {
+            let number = words.strip_suffix("_t").expect("a number's type");
+            let number = number.replace("uint", "u").replace("int", "i");
+            assert!(["u8", "u32", "u64", "i8", "i32"].contains(&&*number));
+            number
+        }
+    }
+}
+
+/// The words of a text joined by single spaces.
+fn joined(text: &str) -> String {
+    Vec::from_iter(text.split_whitespace()).join(" ")
+}
+
+#[test]
+fn the_declarations_are_those_of_the_header() {
+    let header = include_str!("../../../../include/lxt.h");
+    let mut plain = String::new();
+    for (place, part) in header.split("/*").enumerate() {
+        let code = part.split_once("*/").map_or(part, |(_, code)| code);
+        plain += if place == 0 { part } else { code };
+    }
+    let ours = joined(include_str!("../ffi.rs")).replace(", ) ->", " ) ->");
+    let ours = ours.replace("( ", "(").replace(" )", ")");
+
+    let functions: Vec<&str> = plain.split("uint32_t lxt_").skip(1).collect();
+    assert_eq!(functions.len(), 9);
+    for function in functions {
+        let (name, rest) = function.split_once('(').expect("a function");
+        let (arguments, _) = rest.split_once(");").expect("its arguments");
+        let arguments = arguments.split(',').map(|argument| {
+            let argument = joined(argument);
+            let name = argument.rfind(|it: char| !it.is_alphanumeric() && it != '_');
+            let (of, name) = argument.split_at(name.expect("a type") + 1);
+            format!("{name}: {}", rust_type(of))
+        });
+        let arguments = Vec::from_iter(arguments).join(", ");
+        let declared = format!("pub fn lxt_{name}({arguments}) -> u32;");
+        assert!(ours.contains(&declared), "{declared}");
+    }
+    assert_eq!(ours.matches("pub fn lxt_").count(), 9);
+    assert!(joined(&plain).contains("struct { uint32_t number; uint32_t offset; } lxt_pair;"));
+}
+
+// ---- Length ----
+
+/// All nine answers about a file with this many bytes, pairs and numbers lent, and what these hold.
+fn all_answers(file: &[u8], bits: &mut [u8], pairs: &mut [Pair], output: &mut [u32]) -> String {
+    let mut answers = String::new();
+    let (mut four, mut scale) = (MARKED, 99);
+    let number = judge(file, &mut four, &mut scale);
+    answers += &format!("{number} {four:?} {scale}, ");
+    let asked = vec![1; pairs.len()];
+    for facility in [0, 1, 200] {
+        let (mut two, mut msb, mut lsb) = ([77; 2], 7, 7);
+        let number = super::facts(file, facility, &mut two, &mut msb, &mut lsb);
+        answers += &format!("{number} {two:?} {msb} {lsb}, ");
+        let mut one = 77;
+        let number = super::root(file, facility, &mut one);
+        answers += &format!("{number} {one}, ");
+        let number = super::name(file, facility, bits, &mut one);
+        answers += &format!("{number} {one} {bits:?}, ");
+        let number = super::change_before(file, facility, 6, &mut one);
+        answers += &format!("{number} {one}, ");
+        let mut three = [77; 3];
+        let number = super::change(file, facility, 6, bits, &mut one, &mut three);
+        answers += &format!("{number} {one} {three:?} {bits:?}, ");
+        let number = super::value_at(file, facility, 100, bits, &mut three);
+        answers += &format!("{number} {three:?} {bits:?}, ");
+    }
+    let number = super::start_walk(file, &asked, pairs);
+    answers += &format!("{number} {pairs:?}, ");
+    let mut two = [77; 2];
+    let number = super::carry_on(file, pairs, 3, output, &mut two);
+    answers + &format!("{number} {two:?} {pairs:?} {output:?}")
+}
+
+const PAIR: Pair = Pair {
+    number: 0xAAAA_AAAA,
+    offset: 0xBBBB_BBBB,
+};
+
+/// Small generated files: of accepted ones also their number of facilities.
+fn small_files(seeds: std::ops::Range<u64>) -> impl Iterator<Item = (Vec<u8>, usize)> {
+    let cases = seeds.map(|seed| lxt_generate::case(seed).bytes);
+    let small = cases.filter(|file| file.len() < 2_000);
+    small.map(|file| {
+        let n = lxt_reference::judge(&file).map_or(2, |it| it.facilities as usize);
+        (file, n)
+    })
+}
+
+#[test]
+fn the_length_of_a_slice_is_all_that_counts() {
+    for (file, n) in small_files(0..600) {
+        let of = |file: &[u8]| {
+            let (mut bits, mut pairs, mut output) = ([9; 1_030], vec![PAIR; n + 1], [9; 6]);
+            all_answers(file, &mut bits, &mut pairs, &mut output)
+        };
+        let alone = of(&file);
+        for around in [0x00, 0x01, 0xB4, 0xFF] {
+            let mut within = vec![around; 40];
+            within.splice(20..20, file.iter().copied());
+            assert_eq!(of(&within[20..20 + file.len()]), alone);
+        }
+    }
+}
+
+#[test]
+fn an_empty_slice_may_be_lent() {
+    let (mut lacking, mut walked) = (0, 0);
+    for (file, n) in small_files(0..600) {
+        let accepted = lxt_reference::judge(&file).is_ok();
+        if accepted && n > 0 {
+            let (mut one, mut two) = (77, [77; 2]);
+            assert_eq!(super::name(&file, 0, &mut [], &mut one), 21);
+            assert_eq!(super::start_walk(&file, &[], &mut []), 21);
+            let number = super::carry_on(&file, &mut [], 0, &mut [], &mut two);
+            assert_eq!((number, one, two), (21, 77, [77; 2]));
+            lacking += 1;
+        }
+        // A file without facilities needs no pair.
+        if accepted && n == 0 {
+            assert_eq!(super::start_walk(&file, &[], &mut []), 0);
+            let mut answer = [77; 2];
+            let number = super::carry_on(&file, &mut [], 0, &mut [], &mut answer);
+            assert_eq!((number, answer), (0, [0, 1]));
+            walked += 1;
+        }
+    }
+    assert!(lacking > 50 && walked > 5, "{lacking} {walked}");
+    let (mut answer, mut timescale) = (MARKED, 99);
+    assert_eq!(judge(&[], &mut answer, &mut timescale), 1);
+}
+
+// ---- Aligned ----
+
+#[test]
+fn a_pair_is_two_numbers() {
+    assert_eq!(std::mem::size_of::<Pair>(), 8);
+    assert_eq!(std::mem::align_of::<Pair>(), 4);
+    assert_eq!(std::mem::offset_of!(Pair, number), 0);
+    assert_eq!(std::mem::offset_of!(Pair, offset), 4);
+}
+
+/// Memory from an address that 64 divides.
+#[repr(C, align(64))]
+struct At64<T>(T);
+
+#[test]
+fn any_address_that_the_type_allows_will_do() {
+    /// Pairs from an address that 4 divides and 8 does not.
+    #[repr(C)]
+    struct Odd {
+        before: u32,
+        pairs: [Pair; 70],
+    }
+    for (file, n) in small_files(600..700).filter(|(_, n)| *n < 70) {
+        let mut answers = std::collections::BTreeSet::new();
+        for shift in 0..16 {
+            let mut bytes = At64([0; 2_016]);
+            bytes.0[shift..shift + file.len()].copy_from_slice(&file);
+            let file = &bytes.0[shift..shift + file.len()];
+            let mut bits = At64([9; 1_046]);
+            let bits = &mut bits.0[shift..shift + 1_030];
+            let mut output = At64([9; 24]);
+            let output = &mut output.0[shift..shift + 6];
+            let pairs = [PAIR; 70];
+            let mut odd = At64(Odd { before: 0, pairs });
+            let mut even = At64(pairs);
+            let pairs = match shift % 2 {
+                0 => &mut even.0,
+                _ => &mut odd.0.pairs,
+            };
+            assert_eq!(pairs.as_ptr() as usize % 8, 4 * (shift % 2));
+            answers.insert(all_answers(file, bits, &mut pairs[..n], output));
+            assert_eq!(odd.0.before, 0);
+        }
+        assert_eq!(answers.len(), 1);
+    }
+}
+
+// ---- No overlap ----
+
+#[test]
+fn parts_of_one_buffer_may_be_lent_where_they_do_not_overlap() {
+    let file = include_bytes!("../../../../traces/gpsim_onereg.lxt");
+    let mut whole = file.to_vec();
+    whole.extend([0x5A; 1_023]);
+    whole.extend(file);
+    let (first, rest) = whole.split_at_mut(file.len());
+    let (names, last) = rest.split_at_mut(1_023);
+    let (mut below, mut above) = (0, 0);
+    assert_eq!(super::name(first, 0, names, &mut below), 0);
+    assert_eq!(super::name(last, 0, names, &mut above), 0);
+    assert_eq!((below, &*first, &*last), (above, &file[..], &file[..]));
+    assert!(below > 0 && names[below as usize..].iter().all(|it| *it == 0));
+}
+
+// ---- Nothing kept ----
+
+#[test]
+fn calls_from_several_threads_answer_as_calls_from_one() {
+    let files: Vec<(Vec<u8>, usize)> = small_files(700..800).collect();
+    let of = |(file, n): &(Vec<u8>, usize)| {
+        let (mut bits, mut pairs, mut output) = ([9; 1_030], vec![PAIR; n + 1], [9; 6]);
+        all_answers(file, &mut bits, &mut pairs, &mut output)
+    };
+    let alone: Vec<String> = files.iter().map(of).collect();
+    std::thread::scope(|scope| {
+        for first in 0..4 {
+            let (files, alone) = (&files, &alone);
+            scope.spawn(move || {
+                for place in 0..files.len() {
+                    let place = (place + 25 * first) % files.len();
+                    assert_eq!(of(&files[place]), alone[place]);
+                }
+            });
+        }
+    });
+}
+
+#[test]
+fn calls_run_on_a_thread_with_128_kib_of_stack() {
+    let mut files: Vec<(Vec<u8>, usize)> = small_files(800..900).collect();
+    let shape = lxt_generate::Large {
+        bytes: 300_000,
+        facilities: 4_096,
+        width: 8,
+        entries: 100,
+    };
+    files.push((lxt_generate::large(&shape), 4_096));
+    let run = move || {
+        for (file, n) in &files {
+            let (mut bits, mut pairs, mut output) = (vec![9; 1_030], vec![PAIR; *n], [9; 6]);
+            let answers = all_answers(file, &mut bits, &mut pairs, &mut output);
+            assert_eq!(
+                answers.starts_with("0 "),
+                lxt_reference::judge(file).is_ok()
+            );
+        }
+        files.len()
+    };
+    let thread = std::thread::Builder::new().stack_size(128 << 10);
+    let thread = thread.spawn(run).expect("a thread");
+    assert!(thread.join().expect("its end") > 50);
+}
+
+// ---- Valid, and fixed sizes: what is written, and that nothing else is ----
+
+/// What is lent without a length, with marks on either side.
+#[repr(C)]
+struct Framed<T> {
+    before: [u64; 2],
+    lent: T,
+    after: [u64; 2],
+}
+
+const FRAME: [u64; 2] = [0x5C5C_5C5C_5C5C_5C5C; 2];
+
+fn framed<T>(lent: T) -> Framed<T> {
+    Framed {
+        before: FRAME,
+        lent,
+        after: FRAME,
+    }
+}
+
+impl<T> Framed<T> {
+    /// What is lent, where the marks around it are still there.
+    fn unframed(self) -> T {
+        assert_eq!((self.before, self.after), (FRAME, FRAME));
+        self.lent
+    }
+}
+
+#[test]
+fn arrays_are_written_whole_and_nothing_around_them() {
+    let file = include_bytes!("../../../../traces/gpsim_onereg.lxt");
+    let judged = Judged::new(file).expect("a trace");
+    let newest = judged.chains()[0][0];
+
+    let (mut four, mut scale) = (framed([MARKED[0]; 4]), framed(99_i8));
+    assert_eq!(judge(file, &mut four.lent, &mut scale.lent), 0);
+    let summary = judged.summary();
+    let expected = [1, summary.changes, summary.end, summary.initial.into()];
+    assert_eq!(four.unframed(), expected);
+    assert_eq!(scale.unframed(), summary.timescale);
+
+    let (mut two, mut msb, mut lsb) = (framed([77; 2]), framed(77), framed(77));
+    let number = super::facts(file, 0, &mut two.lent, &mut msb.lent, &mut lsb.lent);
+    let facts = judged.facts(0).expect("facts");
+    assert_eq!(number, 0);
+    assert_eq!(two.unframed(), [facts.width, facts.kind as u32]);
+    assert_eq!((msb.unframed(), lsb.unframed()), (facts.msb, facts.lsb));
+
+    let mut one = framed(77);
+    assert_eq!(super::root(file, 0, &mut one.lent), 0);
+    assert_eq!(one.unframed(), 0);
+    let mut one = framed(77);
+    assert_eq!(super::change_before(file, 0, newest, &mut one.lent), 0);
+    let before = judged.change_before(0, newest);
+    assert_eq!(Ok(one.unframed()), before);
+    let (mut one, mut names) = (framed(77), framed([9; 1_023]));
+    assert_eq!(super::name(file, 0, &mut names.lent, &mut one.lent), 0);
+    let length = one.unframed() as usize;
+    assert_eq!(names.unframed()[..length], *judged.name_of(0));
+
+    let mut room = [9; 4_096];
+    let (time, value) = judged.change(0, newest, &mut room).expect("a change");
+    let (mut one, mut three, mut bits) = (framed(77), framed([77; 3]), framed([9; 4_096]));
+    let (lent, answer) = (&mut bits.lent, &mut three.lent);
+    let number = super::change(file, 0, newest, lent, &mut one.lent, answer);
+    assert_eq!((number, one.unframed()), (0, time));
+    assert_eq!((three.unframed(), bits.unframed()), (numbers(value), room));
+    let (mut three, mut bits) = (framed([77; 3]), framed([9; 4_096]));
+    let number = super::value_at(file, 0, u32::MAX, &mut bits.lent, &mut three.lent);
+    let mut room = [9; 4_096];
+    let value = judged.value_at(0, u32::MAX, &mut room).expect("a value");
+    assert_eq!(number, 0);
+    assert_eq!((three.unframed(), bits.unframed()), (numbers(value), room));
+
+    let mut pairs = framed([PAIR; 1]);
+    assert_eq!(super::start_walk(file, &[1], &mut pairs.lent), 0);
+    let (mut two, mut output) = (framed([77; 2]), framed([77; 2]));
+    let lent = (&mut pairs.lent, &mut output.lent);
+    assert_eq!(super::carry_on(file, lent.0, 1, lent.1, &mut two.lent), 0);
+    assert_eq!(output.unframed(), [0, newest]);
+    assert_eq!(Ok(pairs.unframed()[0].offset), before);
+    let done = u32::from(before == Ok(0));
+    assert_eq!(two.unframed(), [1, done]);
+}
+
+const MARKED: [u32; 4] = [0xAAAA_AAAA; 4];
+
+#[test]
+fn a_refused_file_writes_nothing() {
+    let file = include_bytes!("../../../../traces/gpsim_onereg.lxt");
+    for length in 0..file.len() {
+        // An exact-size copy, so that a read past the slice would leave its allocation.
+        let cut = file[..length].to_vec().into_boxed_slice();
+        let (mut answer, mut timescale) = (MARKED, 99);
+        assert_ne!(judge(&cut, &mut answer, &mut timescale), 0);
+        assert_eq!((answer, timescale), (MARKED, 99));
+    }
+}
+
+/// What lent numbers hold after a call: the answer and 0, or what they held and the refusal.
+fn after<T>(expected: Result<T, u8>, marked: T) -> (u32, T) {
+    match expected {
+        Ok(answer) => (0, answer),
+        Err(number) => (u32::from(number), marked),
+    }
+}
+
+fn numbers(value: Value) -> [u64; 3] {
+    match value {
+        Value::Bits { width } => [0, u64::from(width), 0],
+        Value::Real { bits } => [1, bits, 0],
+        Value::Text { start, length } => [2, u64::from(start), u64::from(length)],
+        Value::NotDriven => [3, 0, 0],
+    }
+}
+
+/// Asks about facilities of generated files, accepted and refused ones, with the facilities'
+/// first changes, no change, and room that is enough or short.
+fn questions(mut ask: impl FnMut(&[u8], &Result<Judged, u8>, u32, u32, usize)) {
+    for seed in 0..2_000 {
+        let file = lxt_generate::case(seed).bytes;
+        let judged = Judged::new(&file);
+        let chains = judged.as_ref().map(Judged::chains).unwrap_or_default();
+        let count = chains.len() as u32;
+        for facility in [0, 1, 2, count / 2, count.saturating_sub(1), count, u32::MAX] {
+            let chain = chains.get(facility as usize);
+            let first = chain.and_then(|chain| chain.first().copied());
+            for offset in [first.unwrap_or(5), 6, u32::MAX] {
+                for room in [0, 32, 4_096] {
+                    ask(&file, &judged, facility, offset, room);
+                }
+            }
+        }
+    }
+}
+
+#[test]
+fn one_number_is_written_or_stays() {
+    const MARK: u32 = 0xAAAA_AAAA;
+    questions(|file, judged, facility, offset, room| {
+        let judged = judged.as_ref().map_err(|number| *number);
+        let mut root = MARK;
+        let number = super::root(file, facility, &mut root);
+        let expected = judged.and_then(|it| it.root(facility));
+        assert_eq!((number, root), after(expected, MARK));
+
+        let mut before = MARK;
+        let number = super::change_before(file, facility, offset, &mut before);
+        let expected = judged.and_then(|it| it.change_before(facility, offset));
+        assert_eq!((number, before), after(expected, MARK));
+
+        let mut names = vec![0xA5; room];
+        let mut size = MARK;
+        let number = super::name(file, facility, &mut names, &mut size);
+        let mut expected_names = vec![0xA5; room];
+        let expected = judged.and_then(|it| it.name(facility, &mut expected_names));
+        let expected = expected.map(|length| length as u32);
+        assert_eq!((number, size), after(expected, MARK));
+        assert_eq!(names, expected_names);
+    });
+}
+
+#[test]
+fn three_numbers_are_written_or_stay() {
+    const MARKS: [u64; 3] = [0xAAAA_AAAA_AAAA_AAAA; 3];
+    questions(|file, judged, facility, time, room| {
+        let judged = judged.as_ref().map_err(|number| *number);
+        let mut bits = vec![0xA5; room];
+        let mut answer = MARKS;
+        let number = super::value_at(file, facility, time, &mut bits, &mut answer);
+        let mut expected_bits = vec![0xA5; room];
+        let expected = judged.and_then(|it| it.value_at(facility, time, &mut expected_bits));
+        assert_eq!((number, answer), after(expected.map(numbers), MARKS));
+        assert_eq!(bits, expected_bits);
+    });
+}
+
+#[test]
+fn facts_are_written_or_stay() {
+    const MARKS: ([u32; 2], i32, i32) = ([0xAAAA_AAAA; 2], 0x5555_5555, 0x6666_6666);
+    questions(|file, judged, facility, _, _| {
+        let judged = judged.as_ref().map_err(|number| *number);
+        let (mut answer, mut msb, mut lsb) = MARKS;
+        let number = super::facts(file, facility, &mut answer, &mut msb, &mut lsb);
+        let expected = judged.and_then(|it| it.facts(facility));
+        let expected =
+            expected.map(|facts| ([facts.width, facts.kind as u32], facts.msb, facts.lsb));
+        assert_eq!((number, (answer, msb, lsb)), after(expected, MARKS));
+    });
+}
+
+#[test]
+fn a_change_is_written_or_stays() {
+    const MARKS: (u32, [u64; 3]) = (0xAAAA_AAAA, [0xAAAA_AAAA_AAAA_AAAA; 3]);
+    questions(|file, judged, facility, offset, room| {
+        let judged = judged.as_ref().map_err(|number| *number);
+        let mut bits = vec![0xA5; room];
+        let (mut time, mut answer) = MARKS;
+        let number = super::change(file, facility, offset, &mut bits, &mut time, &mut answer);
+        let mut expected_bits = vec![0xA5; room];
+        let expected = judged.and_then(|it| it.change(facility, offset, &mut expected_bits));
+        let expected = expected.map(|(time, value)| (time, numbers(value)));
+        assert_eq!((number, (time, answer)), after(expected, MARKS));
+        assert_eq!(bits, expected_bits);
+    });
+}
+
+/// The lent pairs as the independent reader takes them: numbers and offsets.
+fn apart(pairs: &[Pair]) -> (Vec<u32>, Vec<u32>) {
+    let both = pairs.iter().map(|pair| (pair.number, pair.offset));
+    both.unzip()
+}
+
+#[test]
+fn a_walk_is_written_or_stays() {
+    const MARKS: [u32; 2] = [0xAAAA_AAAA; 2];
+    let mark = Pair {
+        number: 0xAAAA_AAAA,
+        offset: 0xBBBB_BBBB,
+    };
+    questions(|file, judged, facility, offset, room| {
+        if offset != u32::MAX {
+            return;
+        }
+        let n = judged.as_ref().map_or(3, |it| it.summary().facilities) as usize;
+        let mut asked = vec![0; n];
+        if let Some(asked) = asked.get_mut(facility as usize) {
+            *asked = 1;
+        }
+        let mut pairs = vec![mark; n + 2];
+        let (mut numbers, mut offsets) = apart(&pairs);
+        let number = super::start_walk(file, &asked, &mut pairs);
+        let expected = lxt_reference::start_walk(file, &asked, &mut numbers, &mut offsets);
+        assert_eq!(number, after(expected, ()).0);
+        assert_eq!(apart(&pairs), (numbers.clone(), offsets.clone()));
+
+        // The record that was started, or the marks where the file was refused.
+        for size in [1, 17, u32::MAX] {
+            let mut output = vec![MARKS[0]; room];
+            let mut expected_output = output.clone();
+            let mut answer = MARKS;
+            let number = super::carry_on(file, &mut pairs, size, &mut output, &mut answer);
+            let expected = lxt_reference::carry_on(
+                file,
+                &mut numbers,
+                &mut offsets,
+                &mut expected_output,
+                size.into(),
+            );
+            let expected = expected.map(|(count, done)| [count, done.into()]);
+            assert_eq!((number, answer), after(expected, MARKS));
+            assert_eq!(output, expected_output);
+            assert_eq!(apart(&pairs), (numbers.clone(), offsets.clone()));
+        }
+    });
+}

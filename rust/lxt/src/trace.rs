@@ -1,0 +1,286 @@
+//! A trace to ask, and its walk as an iterator.
+
+use std::iter::FusedIterator;
+use std::ops::Range;
+
+use crate::{Facts, Pair, Refusal, Summary, Value, NAME_ROOM, WIDEST};
+
+/// An accepted trace in lent bytes.
+///
+/// It holds the bytes and the summary, no more. So each question is one call of a proved function, and
+/// that trusts nothing that was found before: it judges the whole file again, which costs as much as
+/// [`open`](Trace::open) did, in time that grows with the file's length and its number of changes. To
+/// read many changes, [walk](Trace::walk): a batch is one call. A call allocates nothing; only the
+/// vectors that are answered are on the heap.
+///
+/// ```
+/// use lxt::{Reading, Trace};
+///
+/// fn main() -> Result<(), Box<dyn std::error::Error>> {
+///     let bytes = std::fs::read("../../traces/gpsim_blink.lxt")?;
+///     let trace = Trace::open(&bytes)?;
+///     for facility in trace.facilities() {
+///         let name = trace.name(facility)?;
+///         let facts = trace.facts(facility)?;
+///         println!("{} {:?} {}", name.escape_ascii(), facts.kind, facts.width);
+///         if let Reading::Bits(symbols) = trace.value_at(facility, 100)? {
+///             println!("  at 100: {}", symbols.escape_ascii());
+///         }
+///     }
+///     Ok(())
+/// }
+/// ```
+#[derive(Clone, Copy, Debug)]
+pub struct Trace<'a> {
+    bytes: &'a [u8],
+    summary: Summary,
+}
+
+/// The value of a facility, by itself.
+#[derive(Clone, Debug, PartialEq)]
+pub enum Reading<'a> {
+    /// The symbols of bits or an integer, in ASCII: `0 1 Z X H U W L -`.
+    Bits(Vec<u8>),
+    Real(f64),
+    /// The bytes of a text in the file, without its zero.
+    Text(&'a [u8]),
+    /// A real or a text that has no change up to the time.
+    NotDriven,
+}
+
+/// A change that a walk hands out.
+#[derive(Clone, Copy, Debug, PartialEq, Eq, Hash)]
+pub struct Change {
+    /// The number of the root whose change it is.
+    pub facility: u32,
+    /// Where it stands in the file.
+    pub offset: u32,
+}
+
+impl<'a> Trace<'a> {
+    /// Judges the bytes: any bytes are accepted exactly when the rules say so, or refused.
+    pub fn open(bytes: &'a [u8]) -> Result<Self, Refusal> {
+        let summary = crate::judge(bytes)?;
+        Ok(Trace { bytes, summary })
+    }
+
+    /// The file.
+    pub fn bytes(&self) -> &'a [u8] {
+        self.bytes
+    }
+
+    /// What judging answered.
+    pub fn summary(&self) -> Summary {
+        self.summary
+    }
+
+    /// The numbers of the facilities: 0 up to n - 1.
+    pub fn facilities(&self) -> Range<u32> {
+        0..self.summary.facilities
+    }
+
+    /// The facts of a facility; an alias answers its root's.
+    pub fn facts(&self, facility: u32) -> Result<Facts, Refusal> {
+        crate::facts(self.bytes, facility)
+    }
+
+    /// The root of a facility, which has its changes; a root's root is itself.
+    pub fn root(&self, facility: u32) -> Result<u32, Refusal> {
+        crate::root(self.bytes, facility)
+    }
+
+    /// The name of a facility. Names are bytes of any encoding.
+    pub fn name(&self, facility: u32) -> Result<Vec<u8>, Refusal> {
+        let mut names = [0; NAME_ROOM];
+        Ok(self.name_into(facility, &mut names)?.to_vec())
+    }
+
+    /// The name of a facility at the start of the lent bytes, of which there are [`NAME_ROOM`] or more.
+    /// The rest of those becomes zero; bytes after them stay.
+    pub fn name_into<'b>(&self, facility: u32, names: &'b mut [u8]) -> Result<&'b [u8], Refusal> {
+        crate::name(self.bytes, facility, names)
+    }
+
+    /// The offset of the change before the one at `offset`, if there is one.
+    pub fn change_before(&self, facility: u32, offset: u32) -> Result<Option<u32>, Refusal> {
+        let before = crate::change_before(self.bytes, facility, offset)?;
+        Ok((before != 0).then_some(before))
+    }
+
+    /// The time and the value of the change at `offset`.
+    pub fn change(&self, facility: u32, offset: u32) -> Result<(u32, Reading<'a>), Refusal> {
+        let mut bits = [0; WIDEST];
+        let (time, value) = self.change_into(facility, offset, &mut bits)?;
+        Ok((time, self.reading(value, &bits)))
+    }
+
+    /// The same with symbols written at the start of the lent bits, of which there are as many as the
+    /// facility is wide or more; the others stay.
+    pub fn change_into(
+        &self,
+        facility: u32,
+        offset: u32,
+        bits: &mut [u8],
+    ) -> Result<(u32, Value), Refusal> {
+        crate::change(self.bytes, facility, offset, bits)
+    }
+
+    /// The value of a facility at a time: that of the latest change up to it, else the initial one.
+    pub fn value_at(&self, facility: u32, time: u32) -> Result<Reading<'a>, Refusal> {
+        let mut bits = [0; WIDEST];
+        let value = self.value_at_into(facility, time, &mut bits)?;
+        Ok(self.reading(value, &bits))
+    }
+
+    /// The same with symbols written at the start of the lent bits, as by
+    /// [`change_into`](Trace::change_into).
+    pub fn value_at_into(
+        &self,
+        facility: u32,
+        time: u32,
+        bits: &mut [u8],
+    ) -> Result<Value, Refusal> {
+        crate::value_at(self.bytes, facility, time, bits)
+    }
+
+    fn reading(&self, value: Value, bits: &[u8]) -> Reading<'a> {
+        match value {
+            Value::Bits { width } => Reading::Bits(bits[..width as usize].to_vec()),
+            Value::Real { number, .. } => Reading::Real(number),
+            Value::Text { start, length } => {
+                let text = &self.bytes[start as usize..];
+                Reading::Text(&text[..length as usize])
+            }
+            Value::NotDriven => Reading::NotDriven,
+        }
+    }
+
+    /// The record of a new walk, for [`carry_on`](crate::carry_on): one pair for each facility. `asked`
+    /// has one truth for each facility.
+    pub fn start_walk(&self, asked: &[bool]) -> Result<Vec<Pair>, Refusal> {
+        let asked: Vec<u8> = asked.iter().map(|asked| u8::from(*asked)).collect();
+        let mut record = vec![Pair::default(); self.summary.facilities as usize];
+        crate::start_walk(self.bytes, &asked, &mut record)?;
+        Ok(record)
+    }
+
+    /// The changes of the facilities that are asked for, the newest first, that is by falling offset.
+    /// `asked` has one truth for each facility; an alias asks for its root, whose changes come once, under
+    /// its own number.
+    ///
+    /// The changes are fetched in batches, each by one call. That checks the file's tables and all changes that
+    /// are still to come, so few large batches are faster than many small ones: see
+    /// [`in_batches_of`](Walk::in_batches_of).
+    ///
+    /// ```
+    /// use lxt::Trace;
+    ///
+    /// fn main() -> Result<(), Box<dyn std::error::Error>> {
+    ///     let bytes = std::fs::read("../../traces/gpsim_blink.lxt")?;
+    ///     let trace = Trace::open(&bytes)?;
+    ///     let mut asked = vec![false; trace.facilities().len()];
+    ///     asked[0] = true;
+    ///     for change in trace.walk(&asked)? {
+    ///         let (time, value) = trace.change(change.facility, change.offset)?;
+    ///         println!("{} at {time}: {value:?}", change.facility);
+    ///     }
+    ///     assert_eq!(trace.walk_all()?.count(), 298);
+    ///     Ok(())
+    /// }
+    /// ```
+    pub fn walk(&self, asked: &[bool]) -> Result<Walk<'a>, Refusal> {
+        Ok(Walk {
+            bytes: self.bytes,
+            record: self.start_walk(asked)?,
+            batch: Walk::BATCH,
+            output: Vec::new(),
+            next: 0,
+            count: 0,
+            done: false,
+        })
+    }
+
+    /// The same for facilities by their numbers, in any order. A number that is not below n is refused
+    /// ([`Refusal::NoFacility`]).
+    pub fn walk_of(&self, facilities: &[u32]) -> Result<Walk<'a>, Refusal> {
+        let mut asked = vec![false; self.summary.facilities as usize];
+        for facility in facilities {
+            match asked.get_mut(*facility as usize) {
+                Some(asked) => *asked = true,
+                None => return Err(Refusal::NoFacility),
+            }
+        }
+        self.walk(&asked)
+    }
+
+    /// The same for all facilities.
+    pub fn walk_all(&self) -> Result<Walk<'a>, Refusal> {
+        self.walk(&vec![true; self.summary.facilities as usize])
+    }
+}
+
+/// The changes of a walk, the newest first. A copy carries on by itself from where it was made.
+#[derive(Clone, Debug)]
+pub struct Walk<'a> {
+    bytes: &'a [u8],
+    record: Vec<Pair>,
+    batch: u32,
+    /// Two numbers for each change of a batch.
+    output: Vec<u32>,
+    /// The next change of the batch, and how many it has.
+    next: usize,
+    count: usize,
+    /// Whether the batch is the last.
+    done: bool,
+}
+
+impl Walk<'_> {
+    /// How many changes a call fetches where nothing else was asked for.
+    pub const BATCH: u32 = 64;
+
+    /// The same walk, with up to so many changes in each further call; 0 counts as 1. A batch takes 8 bytes
+    /// of memory for each change.
+    ///
+    /// A call checks the file's tables and the changes that are still to come, so a walk of N changes in
+    /// batches of b checks about N * N / 2b of them. A batch of `u32::MAX` fetches all in one call, which
+    /// checks each once, and takes at most four times as much memory as the file.
+    pub fn in_batches_of(mut self, size: u32) -> Self {
+        self.batch = size.max(1);
+        self
+    }
+
+    /// Fetches the next changes.
+    fn carry_on(&mut self) {
+        // A change has two bytes or more, and no two share one.
+        let most = (self.bytes.len() / 2) as u32;
+        let size = self.batch.min(most);
+        self.output.resize(2 * size as usize, 0);
+        let answer = crate::carry_on(self.bytes, &mut self.record, size, &mut self.output);
+        // The bytes are borrowed and the record is the last call's, so only a short output is refused.
+        let (count, done) = answer.expect("a started walk carries on");
+        self.next = 0;
+        self.count = count as usize;
+        self.done = done;
+    }
+}
+
+impl Iterator for Walk<'_> {
+    type Item = Change;
+
+    fn next(&mut self) -> Option<Change> {
+        if self.next == self.count && !self.done {
+            self.carry_on();
+        }
+        if self.next == self.count {
+            return None;
+        }
+        let change = Change {
+            facility: self.output[2 * self.next],
+            offset: self.output[2 * self.next + 1],
+        };
+        self.next += 1;
+        Some(change)
+    }
+}
+
+impl FusedIterator for Walk<'_> {}

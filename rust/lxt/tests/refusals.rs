@@ -1,0 +1,32 @@
+//! Which refusals the compared calls give: every one that a call can give, and no other.
+
+use std::collections::BTreeSet;
+
+use lxt_compare::{can_refuse, generated, Compared, CALLS};
+
+#[test]
+fn each_call_gives_every_refusal_that_it_can_and_no_other() {
+    let mut compared = Compared::default();
+    for (what, file) in generated(200_000..204_000, usize::MAX) {
+        compared.file(&file, &what);
+    }
+    let answers = compared.answers();
+    let mut given = BTreeSet::new();
+    for call in CALLS {
+        let count = |number: u8| answers.get(&(call, number)).copied().unwrap_or(0);
+        let counts = Vec::from_iter((0..=u8::MAX).map(count));
+        println!("{call:>13} {:?}", &counts[..=22]);
+        assert!(counts[0] >= 1_000, "{call} was answered {}", counts[0]);
+        for number in 1..=u8::MAX {
+            let count = counts[usize::from(number)];
+            match can_refuse(call, number) {
+                true => assert!(count >= 20, "{call} gave {number} {count} times"),
+                false => assert_eq!(count, 0, "{call} gave {number}"),
+            }
+            if count > 0 {
+                given.insert(number);
+            }
+        }
+    }
+    assert_eq!(given, BTreeSet::from_iter(1..=22));
+}
