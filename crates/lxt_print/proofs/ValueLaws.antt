@@ -28,8 +28,9 @@ use Rattle.lxt_tables.proofs.TablesLaws.{Known, entry-allowed, width-most}
 use Rattle.lxt_values.specs.Times as Ti
 use Rattle.lxt_chains.specs.Pending.{pairOf}
 use Rattle.lxt_chains.specs.Accepted.{Allowed, allowed-sound}
-use Rattle.lxt_reader.specs.Reading.{Readies}
-use Rattle.lxt_reader.proofs.ValueWays.{order-is, order-there, symbols-long, bits-drawn, integer-drawn}
+use Rattle.lxt_values.specs.Value.{Readies}
+use Rattle.lxt_values.proofs.ReadLaws.{symbols-long, bits-drawn, integer-drawn}
+use Rattle.lxt_reader.proofs.ValueWays.{order-is, order-there}
 use Rattle.lxt_print.specs.Lines.{decimal, space, newline, changeWord, hexBytes, valueText, changeLine}
 use Rattle.lxt_print.specs.Placing.{placed, Opened, Put, changeHead}
 use Rattle.lxt_print.proofs.TextLaws.{placed-none}

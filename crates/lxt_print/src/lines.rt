@@ -17,12 +17,12 @@ use crate::text::put_decimal;
 use crate::text::put_hex;
 use lxt_format::Kind;
 use lxt_format::Value;
-use lxt_reader::values;
 use lxt_tables::Tables;
 use lxt_tables::aliases;
 use lxt_tables::geometry;
 use lxt_values::names::NamesLeft;
 use lxt_values::names::next;
+use lxt_values::value::read;
 
 // "refused" and the number.
 pub fn refused(k: u8, out: &mut [u8]) -> usize
@@ -155,7 +155,7 @@ fn put_value(file: &[u8], t: Tables, f: u32, o: u32, out: &mut [u8], at: usize) 
     let facts = geometry::own_facts(file, t.geometry as usize, t.facilities, f);
     let kind = facts.kind;
     let order = t.order;
-    let value = values::read(
+    let value = read(
         file,
         t.end,
         order,

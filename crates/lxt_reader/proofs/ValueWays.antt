@@ -4,33 +4,27 @@ use mathlib.Core.Path.{_≡_, refl, sym, _∙_}
 use mathlib.Core.Bool.{Bool, true, false, not, _&&_}
 use mathlib.Core.List.{List, [], _++_}
 use lib.ListN.{length, drop, replicate, length-replicate}
-use lib.Seq.{slice}
-use lib.Ieee.{Float}
 use lib.Dec.{ltb, leb, eqb, lit<}
 use native.Mathlib.Omega.{arith}
 use native.Mathlib.Decide.{ℕ-discrete}
-use borrow.Author.Tests.{eq-eqb, ne-eqb, le-leb, lt-leb, leb-true, ltb-true, eqb-false}
+use borrow.Author.Tests.{ne-eqb, le-leb, lt-leb, leb-true, ltb-true, eqb-false}
 use Rattle.lxt_format.specs.Basics.{_unless_, Answer, given, refused, range, any, select}
 use Rattle.lxt_format.specs.BasicsLaws.{on-test, and-both, neither, kept, stops}
-use Rattle.lxt_format.specs.Bytes.{byteAt, toZero}
+use Rattle.lxt_format.specs.Bytes.{byteAt}
 use Rattle.lxt_format.specs.Sections.{sectionOf, present, facilityCount, changesFrom, endOf, initialOf}
 use Rattle.lxt_format.specs.Geometry.{isAlias, rootOf, rootsOf, ownFacts, factsOf}
 use Rattle.lxt_format.specs.Times.{timeOf}
-use Rattle.lxt_format.specs.Reals.{byteOrder, bitsInOrder, realBits, isReal, hasReal}
+use Rattle.lxt_format.specs.Reals.{byteOrder, isReal, hasReal}
 use Rattle.lxt_format.specs.Reals as R
-use Rattle.lxt_format.specs.Changes.{commandOf, deltaSize, dataAt, symbolSize, changeEnd, dataSize, chainOf}
+use Rattle.lxt_format.specs.Changes.{chainOf}
 use Rattle.lxt_format.specs.ChangesLaws.{Sound}
-use Rattle.lxt_format.specs.Values.{Content, bits, symbolOf, symbolsAt, contentBy, contentOf, latestAt, changeAt, initialBy, contentAt}
-use Rattle.lxt_format.specs.Answers.{Shown, bitsOf, realOf, textOf, nothing, shown, timedSays}
+use Rattle.lxt_format.specs.Values.{Content, bits, symbolOf, contentBy, contentOf, latestAt, changeAt, initialBy, contentAt}
+use Rattle.lxt_format.specs.Answers.{Shown, bitsOf, nothing, shown, timedSays}
 use Rattle.lxt_format.specs.Questions.{written, holdingBits, facilityRefusal, changeRefusal, readingRefusal, changeAsked, changeBuffer, valueRefusal, valueAsked, valueBuffer, chainAsked}
 use Rattle.lxt_format.specs.Judge.{fileRefusal, faultFrom}
 use Rattle.lxt_format.specs.declared.TimedValue.{TimedValue}
 use Rattle.lxt_format.specs.declared.Kind.{Kind}
 use Rattle.lxt_format.specs.declared.Kind.the-variants.{Bits, Integer, Real, Text}
-use Rattle.lxt_changes.specs.Faults.{symbolic}
-use Rattle.lxt_values.specs.Symbols.{Drawn}
-use Rattle.lxt_values.proofs.SymbolLaws.{Sizes, by-1, by-2, by-4, symbols-length}
-use Rattle.lxt_values.specs.SymbolsLaws.{sound-drawn}
 use Rattle.lxt_values.specs.Reals.{Places, order-places}
 use Rattle.lxt_values.specs.Times as Ti
 use Rattle.lxt_values.specs.Times.{Readable}
@@ -41,114 +35,8 @@ use Rattle.lxt_tables.proofs.TablesLaws.{Known, root-in, root-plain}
 use Rattle.lxt_reader.specs.Changing.{Followed, Chained, Looked}
 use Rattle.lxt_reader.specs.declared.changes.Chain.{Chain}
 use Rattle.lxt_reader.proofs.AskWays.{tables-known}
-use Rattle.lxt_reader.specs.Reading.{Readies, startContent}
-
--- ---- symbols
-
--- as many symbols as the width
-pub symbols-long : (s : List ℕ) (width o : ℕ) → Drawn s width o → length (symbolsAt s width o) ≡ width
-unfolding symbolsAt symbolSize
-symbols-long s width o d =
-    let c : ℕ = commandOf s o in
-    elim (ℕ-discrete c 0) [
-      | yes e ↦ packed-long 1 8 by-1 (simp (eq-eqb c 0 e)) (lit< tt)
-      | no n ↦ elim (ℕ-discrete c 1) [
-        | yes e ↦ packed-long 2 4 by-2 (simp (ne-eqb c 0 n, eq-eqb c 1 e)) (lit< tt)
-        | no m ↦ elim (ℕ-discrete c 2) [
-          | yes e ↦ packed-long 4 2 by-4 (simp (ne-eqb c 0 n, ne-eqb c 1 m, eq-eqb c 2 e)) (lit< tt)
-          | no k ↦ none-long (simp (ne-eqb c 0 n, ne-eqb c 1 m, ne-eqb c 2 k))
-        ]
-      ]
-    ]
-  where
-    packed-long : (b p : ℕ) → Sizes b p → symbolSize (commandOf s o) ≡ b → 0 < b → length (symbolsAt s width o) ≡ width
-    packed-long b p z e l =
-        let n : symbolSize (commandOf s o) ≡ 0 → ⊥ = omega arith in
-        simp (ne-eqb _ 0 n) (rw e (symbols-length b p z s width (dataAt s o) (record { inside = rw (← e) (d .inside); codes = rw (← e) (d .codes n) })))
-
-    none-long : symbolSize (commandOf s o) ≡ 0 → length (symbolsAt s width o) ≡ width
-    none-long e = simp (eq-eqb _ 0 e) (length-replicate width _)
-
--- ---- the value of a change
-
-module _ (s : List ℕ) (end : ℕ) (order : List ℕ) (kind : Kind) (width o room : ℕ) (w : Readies s end order kind width o room) where
-  pub starts-inside : o < length s
-  starts-inside = let a = w .sound .before in let e = w .limit in let l = w .within in omega arith
-
-  drawn : symbolic kind ≡ true → Drawn s width o
-  drawn k = let e = w .limit in sound-drawn s (changesFrom s) (endOf s) kind width o k (rw (← e) (w .within)) (w .sound)
-
-  module _ (e : kind ≡ Bits) where
-    pub bits-drawn : Drawn s width o × (width ≤ room)
-    unfolding symbolic
-    bits-drawn = (drawn (rw e), w .enough)
-
-    pub bits-read : (before after : List ℕ) → after ≡ symbolsAt s width o ++ drop width before
-        → (given (bitsOf width) ≡ given (shown (contentBy s kind width o))) × (after ≡ holdingBits (contentBy s kind width o) before)
-    unfolding contentBy holdingBits written
-    bits-read before after h =
-        let long = symbols-long s width o (bits-drawn .0) in
-        (rw (e, long), h ∙ rw (e, long))
-
-  module _ (e : kind ≡ Integer) where
-    pub integer-drawn : Drawn s width o × (width ≤ room)
-    unfolding symbolic
-    integer-drawn = (drawn (rw e), w .enough)
-
-    pub integer-read : (before after : List ℕ) → after ≡ symbolsAt s width o ++ drop width before
-        → (given (bitsOf width) ≡ given (shown (contentBy s kind width o))) × (after ≡ holdingBits (contentBy s kind width o) before)
-    unfolding contentBy holdingBits written
-    integer-read before after h =
-        let long = symbols-long s width o (integer-drawn .0) in
-        (rw (e, long), h ∙ rw (e, long))
-
-  module _ (d : ℕ) (ed : d ≡ deltaSize s o) where
-    at-is : o + 1 + d ≡ dataAt s o
-    unfolding dataAt
-    at-is = rw ed
-
-    module _ (e : kind ≡ Real) where
-      pub real-asks : Places order × ((o + 1 + d) + 8 ≤ length s)
-      unfolding changeEnd dataSize
-      real-asks =
-          let g : dataAt s o + 8 ≤ endOf s = rw e at (w .sound .ends) in
-          let a = at-is in
-          let l = w .limit in
-          let h = w .within in
-          (w .places e, omega arith)
-
-      pub real-read : (word : ℕ) → word ≡ bitsInOrder s (o + 1 + d) order → (x : Float) → x ≡ R.realOf word → (before : List ℕ)
-          → (given (realOf x word) ≡ given (shown (contentBy s kind width o))) × (before ≡ holdingBits (contentBy s kind width o) before)
-      unfolding contentBy holdingBits written realBits
-      real-read word ew x ex before =
-          let v : word ≡ bitsInOrder s (dataAt s o) (byteOrder s) = ew ∙ rw (at-is, w .ordered e) in
-          (rw (e, ex, v), rw e)
-
-    pub place-small : o + 1 + d < 4294967296
-    unfolding changeEnd
-    place-small =
-        let a = at-is in
-        let g = w .sound .ends in
-        let l = w .limit in
-        let h = w .within in
-        let q = w .short in
-        omega arith
-
-    module _ (e : kind ≡ Text) (n : ℕ) (en : n ≡ toZero (slice (o + 1 + d) end s)) where
-      pub length-small : n < 4294967296
-      unfolding changeEnd dataSize
-      length-small =
-          let z : n ≡ toZero (slice (dataAt s o) (endOf s) s) = en ∙ rw (at-is, w .limit) in
-          let g : dataAt s o + (toZero (slice (dataAt s o) (endOf s) s) + 1) ≤ endOf s = rw e at (w .sound .ends) in
-          let l = w .limit in
-          let h = w .within in
-          let q = w .short in
-          omega arith
-
-      pub text-read : (before : List ℕ)
-          → (given (textOf (o + 1 + d) n) ≡ given (shown (contentBy s kind width o))) × (before ≡ holdingBits (contentBy s kind width o) before)
-      unfolding contentBy holdingBits written
-      text-read before = (rw (e, en, at-is, w .limit), rw e)
+use Rattle.lxt_values.specs.Value.{Readies}
+use Rattle.lxt_reader.specs.Reading.{startContent}
 
 -- ---- before the first change
 

@@ -5,3 +5,4 @@ pub mod TimeLaws
 pub mod CopyLaws
 pub mod NameLaws
 pub mod EntryLaws
+pub mod ReadLaws

@@ -5,3 +5,4 @@ pub mod Times
 pub mod Entries
 pub mod TimesLaws
 pub mod Names
+pub mod Value

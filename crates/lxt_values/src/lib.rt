@@ -5,3 +5,4 @@ pub mod reals;
 pub mod symbols;
 pub mod texts;
 pub mod times;
+pub mod value;

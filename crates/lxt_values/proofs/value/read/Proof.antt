@@ -1,7 +1,7 @@
-use Rattle.lxt_reader.proofs.ValueWays.{starts-inside, bits-drawn, bits-read, integer-drawn, integer-read, real-asks, real-read, place-small, length-small, text-read}
+use Rattle.lxt_values.proofs.ReadLaws.{starts-inside, bits-drawn, bits-read, integer-drawn, integer-read, real-asks, real-read, place-small, length-small, text-read}
 use borrow.Author.Needs.{needs}
-use Rattle.lxt_reader.proofs.values.read.Statement.{statement}
-use Rattle.lxt_reader.proofs.values.read.Tie as tie
+use Rattle.lxt_values.proofs.value.read.Statement.{statement}
+use Rattle.lxt_values.proofs.value.read.Tie as tie
 
 add-at : tie.Need-add-at
 add-at c = search needs
