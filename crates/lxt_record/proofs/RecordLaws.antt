@@ -12,7 +12,7 @@ use lib.Seq.{length-take-le, take-all, take-at, take-take, getD-take, drop-appen
 use lib.Dec.{leb, eqb, lit<}
 use borrow.Author.Tests.{leb-true, le-leb, lt-leb, eqb-true}
 use Rattle.lxt_format.specs.Basics.{range, all, _unless_}
-use Rattle.lxt_format.specs.BasicsLaws.{on-test, on-zero, and-both, stops, neither, kept, length-range, all-range}
+use Rattle.lxt_format.specs.BasicsLaws.{on-test, on-zero, and-both, stops, neither, kept, all-range}
 use Rattle.lxt_format.specs.Sections.{facilityCount}
 use Rattle.lxt_format.specs.Judge.{tablesRefusal, fileRefusal}
 use Rattle.lxt_format.specs.JudgeLaws.{passed, passed-count, accepted}
@@ -23,6 +23,7 @@ use Rattle.lxt_format.specs.declared.Pair.{Pair}
 use Rattle.lxt_format.specs.declared.StartAnswer.{StartAnswer}
 use Rattle.lxt_format.specs.declared.CarryAnswer.{CarryAnswer}
 use Rattle.lxt_format.specs.Answers.{startSays, carrySays}
+use Rattle.lxt_chains.specs.Bridge.{length-start}
 use Rattle.lxt_walk.specs.Calls.{Starts, Carries}
 use Rattle.lxt_walk.specs.Handed.{length-after}
 use Rattle.lxt_walk.specs.Record.{length-with}
@@ -70,10 +71,6 @@ all-same p q i (suc k) h = let r = all-same p q (suc i) k (λ j a b. h j (omega 
 allowed-room : (s : List ℕ) (ts : List Pair) (room : ℕ) → facilityCount s ≤ room → recordAllowed s (take room ts) ≡ recordAllowed s ts
 unfolding recordAllowed
 allowed-room s ts room h = all-same _ _ 0 (facilityCount s) (λ f a b. ap (pairAllowed s f) (getD-take room ts f none (omega arith)))
-
-length-start : (s asked : List ℕ) → length (startOffsets s asked) ≡ facilityCount s
-unfolding startOffsets
-length-start s asked = length-map (range 0 (facilityCount s)) _ ∙ length-range 0 (facilityCount s)
 
 -- ---- the room of a record
 

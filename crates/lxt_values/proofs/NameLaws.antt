@@ -106,18 +106,6 @@ abbrev pub chosen : ℕ → List ℕ → Option (List (List ℕ)) → List ℕ
 chosen zero name o = name
 chosen (suc j) name o = nameAmong j o
 
--- one name on, the wanted one is one nearer
-chosen-suc : (j : ℕ) (before name : List ℕ) (o : Option (List (List ℕ))) → accepted o ≡ true → chosen j name o ≡ chosen (suc j) before (named name o)
-unfolding accepted
-chosen-suc j before name none e = absurd (false≢true e)
-chosen-suc zero before name (some names) e = refl
-chosen-suc (suc j) before name (some names) e = refl
-
--- the same, counted by what is left
-chosen-next : (l : ℕ) (before name : List ℕ) (o : Option (List (List ℕ))) → 0 < l → accepted o ≡ true → chosen (l - 1) name o ≡ chosen l before (named name o)
-chosen-next zero before name o h e = absurd (omega arith)
-chosen-next (suc j) before name o h e = let q : suc j - 1 ≡ j = omega arith in rw q (chosen-suc j before name o e)
-
 -- the same bytes, whether the file is cut at T or not
 uncut : (s : List ℕ) (T a y : ℕ) → T ≤ length s → a + y ≤ T → take y (slice a T s) ≡ take y (drop a s)
 uncut s T a y t h =

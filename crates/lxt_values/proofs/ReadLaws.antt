@@ -58,9 +58,6 @@ symbols-long s width o d =
 -- ---- the value of a change
 
 module _ (s : List ℕ) (end : ℕ) (order : List ℕ) (kind : Kind) (width o room : ℕ) (w : Readies s end order kind width o room) where
-  pub starts-inside : o < length s
-  starts-inside = let a = w .sound .before in let e = w .limit in let l = w .within in omega arith
-
   drawn : symbolic kind ≡ true → Drawn s width o
   drawn k = let e = w .limit in sound-drawn s (changesFrom s) (endOf s) kind width o k (rw (← e) (w .within)) (w .sound)
 
@@ -109,16 +106,6 @@ module _ (s : List ℕ) (end : ℕ) (order : List ℕ) (kind : Kind) (width o ro
       real-read word ew x ex before =
           let v : word ≡ bitsInOrder s (dataAt s o) (byteOrder s) = ew ∙ rw (at-is, w .ordered e) in
           (rw (e, ex, v), rw e)
-
-    pub place-small : o + 1 + d < 4294967296
-    unfolding changeEnd
-    place-small =
-        let a = at-is in
-        let g = w .sound .ends in
-        let l = w .limit in
-        let h = w .within in
-        let q = w .short in
-        omega arith
 
     module _ (e : kind ≡ Text) (n : ℕ) (en : n ≡ toZero (slice (o + 1 + d) end s)) where
       pub length-small : n < 4294967296
