@@ -8,11 +8,11 @@ use lib.Seq.{getD-set-other}
 use lib.Dec.{leb}
 use native.Mathlib.Omega.{arith}
 use native.Mathlib.Decide.{decLe}
-use Rattle.lxt_format.specs.Sections.{changesFrom, endOf}
-use Rattle.lxt_format.specs.Geometry.{isAlias, syncOf, ownFacts}
+use Rattle.lxt_format.specs.Sections.{endOf}
+use Rattle.lxt_format.specs.Geometry.{isAlias, syncOf}
 use Rattle.lxt_format.specs.Changes.{dataAt, previousOf, changeEnd}
 use Rattle.lxt_format.specs.ChangesLaws.{previous-lt, Sound}
-use Rattle.lxt_format.specs.Judge.{endAt, changesApart, chainsRefusal}
+use Rattle.lxt_format.specs.Judge.{signalOf, endAt, changesApart, chainsRefusal}
 use Rattle.lxt_format.specs.Walk.{sort, top, high, step}
 use Rattle.lxt_chains.specs.Pending.{pairOf, pendingChanges, rootOffsets}
 use Rattle.lxt_chains.specs.Sorted.{each-sort}
@@ -27,14 +27,14 @@ use Rattle.lxt_chains.specs.declared.chains.Chains.{Chains}
 
 -- an allowed change lies in the file, and the one before it has a small offset
 module _ (s : List ℕ) (inside : endOf s ≤ length s) (small : length s ≤ 16777216) (f o : ℕ) (allowed : Allowed s (pairOf f o)) where
-  sound-here : Sound s (changesFrom s) (endOf s) (ownFacts s f .kind) (ownFacts s f .width) o
+  sound-here : Sound s (signalOf s f) o
   sound-here = allowed-sound s allowed
 
   pub allowed-inside : (o < length s) × (dataAt s o ≤ length s)
   allowed-inside =
       let a = sound-here .before in
       let b = sound-here .ends in
-      let d : dataAt s o ≤ changeEnd s (endOf s) (ownFacts s f .kind) (ownFacts s f .width) o = (unfold changeEnd in omega arith) in
+      let d : dataAt s o ≤ changeEnd s (signalOf s f) o = (unfold changeEnd in omega arith) in
       (omega (arith, inside), omega (arith, inside))
 
   pub allowed-previous : (p : ℕ) → p ≡ previousOf s o → p < 16777216

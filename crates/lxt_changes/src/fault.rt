@@ -5,7 +5,7 @@ ghost use Prim.Native.Nat.{_+_, _*_, _-_, _≤_, _<_};
 ghost use lib.Dec.{ltb, leb};
 ghost use lib.ListN.{length};
 ghost use Rattle.lxt_changes.specs.Windows.{Known};
-ghost use Rattle.lxt_format.specs.Changes.{faultAt, chainFault};
+ghost use Rattle.lxt_format.specs.Changes.{signal, faultAt, chainFault};
 ghost use Rattle.lxt_changes.specs.Faults.{LastZero, startFault, symbolFault, bodyFault, Found, Setting};
 use crate::delta;
 use crate::symbols;
@@ -139,7 +139,7 @@ pub fn change_fault(
     w: Window,
 ) -> Faulted
     requires { ⌜ Setting (now file) end zero kind width × Known (now file) w ⌝ }
-    ensures { λ r. ⌜ Found (now (file .entry)) (faultAt (now (file .entry)) from end kind width o) r ⌝ }
+    ensures { λ r. ⌜ Found (now (file .entry)) (faultAt (now (file .entry)) (signal from end kind width) o) r ⌝ }
 {
     let first = start_fault(file, from, end, kind, o);
     if first != 0 {
@@ -176,7 +176,7 @@ pub fn first_fault(
     start: usize,
 ) -> u8
     requires { ⌜ Setting (now file) end zero kind width ⌝ }
-    ensures { λ r. ⌜ r ≡ chainFault (now (file .entry)) from end kind width start ⌝ }
+    ensures { λ r. ⌜ r ≡ chainFault (now (file .entry)) (signal from end kind width) start ⌝ }
 {
     let mut o = start;
     let mut w = Window { from: 0, to: 0 };

@@ -18,7 +18,7 @@ use Rattle.lxt_format.specs.Times.{timesAllowed}
 use Rattle.lxt_format.specs.Reals.{realTestAllowed}
 use Rattle.lxt_format.specs.Changes.{previousOf, chainFault}
 use Rattle.lxt_format.specs.ChangesLaws.{Sound, sound, chain-more}
-use Rattle.lxt_format.specs.Judge.{tablesRefusal, faultFrom, chainsRefusal, changesApart, fileRefusal}
+use Rattle.lxt_format.specs.Judge.{tablesRefusal, signalOf, faultFrom, chainsRefusal, changesApart, fileRefusal}
 
 -- what a file keeps that refusals 1 to 14 pass
 pub record Passed (s : List ℕ) : Type 0 where
@@ -116,6 +116,6 @@ root-sound s h f l e =
 
 -- the newest change of a chain without a fault has none, and neither have the changes before it
 pub newest-sound : (s : List ℕ) (f o : ℕ) → 0 < o → faultFrom s f o ≡ 0
-    → Sound s (changesFrom s) (endOf s) (ownFacts s f .kind) (ownFacts s f .width) o × (faultFrom s f (previousOf s o) ≡ 0)
+    → Sound s (signalOf s f) o × (faultFrom s f (previousOf s o) ≡ 0)
 unfolding faultFrom chainFault firstFault
-newest-sound s f o h e = let b = neither _ _ (rw (chain-more s o h) at e) in (sound s _ _ _ _ o (b .0), b .1)
+newest-sound s f o h e = let b = neither _ _ (rw (chain-more s o h) at e) in (sound s _ o (b .0), b .1)
