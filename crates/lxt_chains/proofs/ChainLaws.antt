@@ -6,6 +6,7 @@ use mathlib.Core.List.{List, [], _∷_, map}
 use lib.Dec.{leb, lit≤}
 use native.Mathlib.Omega.{arith}
 use native.Mathlib.Numerals.{add-one}
+use Rattle.lxt_format.specs.Limits.{widestFacility}
 use Rattle.lxt_format.specs.Basics.{_orElse_, range, select, firstFault}
 use Rattle.lxt_format.specs.BasicsLaws.{all-range, on-test, range-upto, range-done, fault-next, fault-here}
 use Rattle.lxt_format.specs.Sections.{facilityCount}
@@ -25,8 +26,8 @@ use Rattle.lxt_chains.specs.declared.chains.Chains.{Chains}
 -- ---- the facts of a root are allowed
 
 -- the facts that an allowed width gives, for each kind
-widths : (kind : Kind) (msb lsb : ℕ) → (kind ≡ Bits → widthBetween msb lsb ≤ 4096)
-    → (factsBy kind msb lsb .width ≤ 4096) × (symbolic (factsBy kind msb lsb .kind) ≡ true → 1 ≤ factsBy kind msb lsb .width)
+widths : (kind : Kind) (msb lsb : ℕ) → (kind ≡ Bits → widthBetween msb lsb ≤ widestFacility)
+    → (factsBy kind msb lsb .width ≤ widestFacility) × (symbolic (factsBy kind msb lsb .kind) ≡ true → 1 ≤ factsBy kind msb lsb .width)
 unfolding factsBy symbolic
 widths Bits msb lsb h = (h refl, λ e. (unfold widthBetween in omega arith))
 widths Integer msb lsb h = (lit≤ tt, λ e. lit≤ tt)
@@ -34,7 +35,7 @@ widths Real msb lsb h = (lit≤ tt, λ e. absurd (false≢true e))
 widths Text msb lsb h = (lit≤ tt, λ e. absurd (false≢true e))
 
 module _ (s : List ℕ) (f : ℕ) (h : geometryAllowed s f ≡ true) (plain : isAlias s f ≡ false) where
-  facts-allowed : (ownFacts s f .width ≤ 4096) × (symbolic (ownFacts s f .kind) ≡ true → 1 ≤ ownFacts s f .width)
+  facts-allowed : (ownFacts s f .width ≤ widestFacility) × (symbolic (ownFacts s f .kind) ≡ true → 1 ≤ ownFacts s f .width)
   unfolding ownFacts
   facts-allowed =
       widths (kindOfFlags (flagsOf s f)) (msbOf s f) (lsbOf s f)
@@ -59,7 +60,7 @@ module _ (s : List ℕ) (c : Chains) (w : Ready s c) (f : ℕ) (below : f < c .f
       unfolding faultFrom
       fault-is o r q = q ∙ rw (w .from, w .end, e)
 
-      pub narrow : facts .width ≤ 4096
+      pub narrow : facts .width ≤ widestFacility
       narrow = rw e (facts-allowed s f facility-allowed plain .0)
 
       pub end-is : (o bound : ℕ) (z : Bool) → z ≡ leb (changeEnd s (signal 0 (c .end) (facts .kind) (facts .width)) o) bound → z ≡ leb (endAt s (record { number = f; offset = o })) bound

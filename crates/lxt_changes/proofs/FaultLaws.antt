@@ -10,6 +10,7 @@ use lib.Dec.{ltb, leb, lit<}
 use native.Mathlib.Omega.{arith}
 use native.Mathlib.Decide.{ℕ-discrete, decLe}
 use borrow.Author.Tests.{eq-eqb, ne-eqb, le-leb, lt-leb, lt-ltb, le-ltb, leb-true, ltb-true}
+use Rattle.lxt_format.specs.Limits.{widestFacility}
 use Rattle.lxt_format.specs.Basics.{_unless_, _orElse_}
 use Rattle.lxt_format.specs.Bytes.{byteAt, toZero}
 use Rattle.lxt_format.specs.BasicsLaws.{neither, kept, stops, and-both}
@@ -95,7 +96,7 @@ module _ (s : List ℕ) (T width o : ℕ) (b size d : ℕ) (eb : b ≡ symbolSiz
     symbols-out h = record { number = (let g : T < dataAt s o + packedSize (symbolSize (commandOf s o)) width = rw end-is h in simp (lt-leb _ _ g)); known = k }
 
   module _ (h : o + 1 + d + size ≤ T) where
-    pub data-there : 1 ≤ width → width ≤ 4096 → T ≤ length s → Data s b width (o + 1 + d)
+    pub data-there : 1 ≤ width → width ≤ widestFacility → T ≤ length s → Data s b width (o + 1 + d)
     data-there least most fits = record { symbols = rw eb (symbol-cases (byteAt s o % 16)); least = least; most = most; inside = rw (← es) (omega arith) }
 
     module _ (c : Checked) (a : Answered s (symbolsAllowed s b width (o + 1 + d)) c) where

@@ -5,6 +5,7 @@ use mathlib.Core.Bool.{Bool, true, false, _&&_}
 use mathlib.Core.List.{List}
 use lib.ListN.{length}
 use lib.Dec.{ltb, leb}
+use Rattle.lxt_format.specs.Limits.{widestFacility}
 use Rattle.lxt_format.specs.Basics.{_unless_, _orElse_}
 use Rattle.lxt_format.specs.Bytes.{byteAt}
 use Rattle.lxt_format.specs.Changes.{signal, commandOf, dataAt, commandAllowed, symbolSize, packedSize, symbolsAllowed, dataAllowed, changeEnd}
@@ -52,4 +53,4 @@ pub record Setting (s : List ℕ) (T z : ℕ) (kind : Kind) (width : ℕ) : Type
   pub within : T ≤ length s
   pub last : LastZero s T z
   pub least : symbolic kind ≡ true → 1 ≤ width
-  pub most : width ≤ 4096
+  pub most : width ≤ widestFacility

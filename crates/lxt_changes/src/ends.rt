@@ -4,6 +4,7 @@ ghost use Prim.Native.Nat.{_+_, _≤_, _<_};
 ghost use lib.Dec.{ltb, leb};
 ghost use lib.ListN.{length};
 ghost use lib.Seq.{slice};
+ghost use Rattle.lxt_format.specs.Limits.{widestFacility};
 ghost use Rattle.lxt_format.specs.Bytes.{toZero};
 ghost use Rattle.lxt_format.specs.Changes.{signal, changeEnd};
 use crate::delta;
@@ -28,7 +29,7 @@ fn zero_before(file: &[u8], from: usize, bound: usize, end: usize) -> bool
 
 // The change at `o` ends at or below `bound`; T is `end`. C does not matter: 0 stands for it.
 pub fn ends_by(file: &[u8], end: usize, kind: Kind, width: u32, o: usize, bound: usize) -> bool
-    requires { ⌜ (width ≤ 4096) × ((o < length (now file)) × ((bound ≤ end) × (end ≤ length (now file)))) ⌝ }
+    requires { ⌜ (width ≤ widestFacility) × ((o < length (now file)) × ((bound ≤ end) × (end ≤ length (now file)))) ⌝ }
     ensures { λ r. ⌜ r ≡ leb (changeEnd (now (file .entry)) (signal 0 end kind width) o) bound ⌝ }
 {
     let at = o + 1 + delta::size_of(file, o);

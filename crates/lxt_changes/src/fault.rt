@@ -5,6 +5,7 @@ ghost use Prim.Native.Nat.{_+_, _*_, _-_, _≤_, _<_};
 ghost use lib.Dec.{ltb, leb};
 ghost use lib.ListN.{length};
 ghost use Rattle.lxt_changes.specs.Windows.{Known};
+ghost use Rattle.lxt_format.specs.Limits.{widestFacility};
 ghost use Rattle.lxt_format.specs.Changes.{signal, faultAt, chainFault};
 ghost use Rattle.lxt_changes.specs.Faults.{LastZero, startFault, symbolFault, bodyFault, Found, Setting};
 use crate::delta;
@@ -52,7 +53,7 @@ fn start_fault(file: &[u8], from: usize, end: usize, kind: Kind, o: usize) -> u8
 
 // The next two tests, of a change of symbols: the whole change before T, and its data.
 fn symbol_fault(file: &[u8], end: usize, width: u32, o: usize, w: Window) -> Faulted
-    requires { ⌜ Known (now file) w × (((1 ≤ width) × (width ≤ 4096)) × ((o < end) × (end ≤ length (now file)))) ⌝ }
+    requires { ⌜ Known (now file) w × (((1 ≤ width) × (width ≤ widestFacility)) × ((o < end) × (end ≤ length (now file)))) ⌝ }
     ensures { λ r. ⌜ Found (now (file .entry)) (symbolFault (now (file .entry)) end width o) r ⌝ }
 {
     let b = symbols::size_of(file[o]);

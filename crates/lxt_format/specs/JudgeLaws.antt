@@ -8,6 +8,7 @@ use lib.Dec.{lit<}
 use native.Mathlib.Omega.{arith}
 use native.Mathlib.Decide.{ℕ-discrete}
 use borrow.Author.Tests.{leb-true, not-true}
+use Rattle.lxt_format.specs.Limits.{shortestFile, longestFile, mostFacilities}
 use Rattle.lxt_format.specs.Basics.{range, select, firstFault}
 use Rattle.lxt_format.specs.BasicsLaws.{on-test, and-both, kept, neither}
 use Rattle.lxt_format.specs.Sections.{lengthAllowed, startsRight, endsRight, listingOf, nothingCompressed, present, sectionsPresent, bodiesInside, countAllowed, facilityCount, changesFrom, endOf}
@@ -70,14 +71,14 @@ passed s h =
       real-test = kept 14 _ (lit< tt) (c13 .1);
     }
 
-pub passed-length : (s : List ℕ) → Passed s → (6 ≤ length s) × (length s ≤ 16777216)
+pub passed-length : (s : List ℕ) → Passed s → (shortestFile ≤ length s) × (length s ≤ longestFile)
 unfolding lengthAllowed
 passed-length s p = let b = and-both _ _ (p .length′) in (leb-true _ _ (b .0), leb-true _ _ (b .1))
 
 pub passed-located : (s : List ℕ) → Passed s → Located s
 passed-located s p = located s (passed-length s p .0) (p .listed) (p .there) (p .bodies)
 
-pub passed-count : (s : List ℕ) → Passed s → facilityCount s ≤ 4096
+pub passed-count : (s : List ℕ) → Passed s → facilityCount s ≤ mostFacilities
 unfolding countAllowed
 passed-count s p = leb-true _ _ (p .count)
 

@@ -3,6 +3,7 @@ use Prim.Native.Nat.{ℕ, _≤_}
 use mathlib.Core.Path.{_≡_}
 use mathlib.Core.List.{List}
 use lib.ListN.{length}
+use Rattle.lxt_format.specs.Limits.{longestFile}
 use Rattle.lxt_format.specs.Sections.{changesFrom, endOf}
 use Rattle.lxt_format.specs.Reals.{byteOrder}
 use Rattle.lxt_format.specs.Changes.{signal}
@@ -16,7 +17,7 @@ pub record Readies (s : List ℕ) (end : ℕ) (order : List ℕ) (kind : Kind) (
   pub sound : Sound s (signal (changesFrom s) (endOf s) kind width) o
   pub limit : end ≡ endOf s
   pub within : end ≤ length s
-  pub short : length s ≤ 16777216
+  pub short : length s ≤ longestFile
   pub ordered : kind ≡ Real → order ≡ byteOrder s
   pub places : kind ≡ Real → Places order
   pub enough : width ≤ room
