@@ -6,11 +6,13 @@ use mathlib.Core.List.{List, [], _∷_, map}
 use lib.Dec.{leb, lit≤}
 use native.Mathlib.Omega.{arith}
 use native.Mathlib.Numerals.{add-one}
+use Rattle.lxt_format.specs.Limits.{widestFacility}
 use Rattle.lxt_format.specs.Basics.{_orElse_, range, select, firstFault}
 use Rattle.lxt_format.specs.BasicsLaws.{all-range, on-test, range-upto, range-done, fault-next, fault-here}
 use Rattle.lxt_format.specs.Sections.{facilityCount}
 use Rattle.lxt_format.specs.Geometry.{isAlias, msbOf, lsbOf, flagsOf, kindOfFlags, widthBetween, geometryAllowed, geometriesAllowed, factsBy, ownFacts, rootsOf, syncOf}
-use Rattle.lxt_format.specs.Changes.{chainFault, changeEnd}
+use Rattle.lxt_format.specs.Changes.{signal, changeEnd, chainFault}
+use Rattle.lxt_format.specs.ChangesLaws.{end-any}
 use Rattle.lxt_format.specs.Judge.{faultFrom, chainsRefusal, endAt}
 use Rattle.lxt_format.specs.declared.Kind.{Kind}
 use Rattle.lxt_format.specs.declared.Kind.the-variants.{Bits, Integer, Real, Text}
@@ -24,8 +26,8 @@ use Rattle.lxt_chains.specs.declared.chains.Chains.{Chains}
 -- ---- the facts of a root are allowed
 
 -- the facts that an allowed width gives, for each kind
-widths : (kind : Kind) (msb lsb : ℕ) → (kind ≡ Bits → widthBetween msb lsb ≤ 4096)
-    → (factsBy kind msb lsb .width ≤ 4096) × (symbolic (factsBy kind msb lsb .kind) ≡ true → 1 ≤ factsBy kind msb lsb .width)
+widths : (kind : Kind) (msb lsb : ℕ) → (kind ≡ Bits → widthBetween msb lsb ≤ widestFacility)
+    → (factsBy kind msb lsb .width ≤ widestFacility) × (symbolic (factsBy kind msb lsb .kind) ≡ true → 1 ≤ factsBy kind msb lsb .width)
 unfolding factsBy symbolic
 widths Bits msb lsb h = (h refl, λ e. (unfold widthBetween in omega arith))
 widths Integer msb lsb h = (lit≤ tt, λ e. lit≤ tt)
@@ -33,7 +35,7 @@ widths Real msb lsb h = (lit≤ tt, λ e. absurd (false≢true e))
 widths Text msb lsb h = (lit≤ tt, λ e. absurd (false≢true e))
 
 module _ (s : List ℕ) (f : ℕ) (h : geometryAllowed s f ≡ true) (plain : isAlias s f ≡ false) where
-  facts-allowed : (ownFacts s f .width ≤ 4096) × (symbolic (ownFacts s f .kind) ≡ true → 1 ≤ ownFacts s f .width)
+  facts-allowed : (ownFacts s f .width ≤ widestFacility) × (symbolic (ownFacts s f .kind) ≡ true → 1 ≤ ownFacts s f .width)
   unfolding ownFacts
   facts-allowed =
       widths (kindOfFlags (flagsOf s f)) (msbOf s f) (lsbOf s f)
@@ -54,16 +56,17 @@ module _ (s : List ℕ) (c : Chains) (w : Ready s c) (f : ℕ) (below : f < c .f
           let a = facts-allowed s f facility-allowed plain in
           record { within = w .within; last = w .zero; least = λ k. rw e (a .1 (rw e at k)); most = rw e (a .0) }
 
-      pub fault-is : (o r : ℕ) → r ≡ chainFault s (c .from) (c .end) (facts .kind) (facts .width) o → r ≡ faultFrom s f o
+      pub fault-is : (o r : ℕ) → r ≡ chainFault s (signal (c .from) (c .end) (facts .kind) (facts .width)) o → r ≡ faultFrom s f o
       unfolding faultFrom
       fault-is o r q = q ∙ rw (w .from, w .end, e)
 
-      pub narrow : facts .width ≤ 4096
+      pub narrow : facts .width ≤ widestFacility
       narrow = rw e (facts-allowed s f facility-allowed plain .0)
 
-      pub end-is : (o bound : ℕ) (z : Bool) → z ≡ leb (changeEnd s (c .end) (facts .kind) (facts .width) o) bound → z ≡ leb (endAt s (record { number = f; offset = o })) bound
+      pub end-is : (o bound : ℕ) (z : Bool) → z ≡ leb (changeEnd s (signal 0 (c .end) (facts .kind) (facts .width)) o) bound → z ≡ leb (endAt s (record { number = f; offset = o })) bound
       unfolding endAt
-      end-is o bound z q = q ∙ rw (w .end, e)
+      end-is o bound z q =
+          q ∙ ap (λ end. leb end bound) (end-any 0 (c .from) (c .end) (facts .kind) (facts .width) s o) ∙ rw (w .from, w .end, e)
 
 -- ---- refusals 15 and 16
 

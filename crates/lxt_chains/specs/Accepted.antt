@@ -8,11 +8,11 @@ use mathlib.Core.List.{List}
 use borrow.Author.Tests.{not-true}
 use Rattle.lxt_format.specs.Basics.{range}
 use Rattle.lxt_format.specs.BasicsLaws.{on-zero}
-use Rattle.lxt_format.specs.Sections.{facilityCount, changesFrom, endOf}
-use Rattle.lxt_format.specs.Geometry.{isAlias, rootsOf, ownFacts, syncOf}
+use Rattle.lxt_format.specs.Sections.{facilityCount, endOf}
+use Rattle.lxt_format.specs.Geometry.{isAlias, rootsOf, syncOf}
 use Rattle.lxt_format.specs.Changes.{previousOf}
 use Rattle.lxt_format.specs.ChangesLaws.{previous-lt, Sound, end-after}
-use Rattle.lxt_format.specs.Judge.{faultFrom, chainsRefusal, changesOf, allChanges, endAt, changesApart}
+use Rattle.lxt_format.specs.Judge.{signalOf, faultFrom, chainsRefusal, changesOf, allChanges, endAt, changesApart}
 use Rattle.lxt_format.specs.JudgeLaws.{newest-sound}
 use Rattle.lxt_format.specs.Walk.{sort}
 use Rattle.lxt_format.specs.declared.Pair.{Pair}
@@ -51,15 +51,14 @@ module _ (s : List ℕ) where
       (each-both (each-selected (λ f. not (isAlias s f)) (range 0 (facilityCount s))) (faultless (λ f. faultFrom s f (syncOf s f)) (rootsOf s) h)))
 
   -- an allowed change keeps all rules of 15 and 16
-  pub allowed-sound : {p : Pair} → Allowed s p
-      → Sound s (changesFrom s) (endOf s) (ownFacts s (p .number) .kind) (ownFacts s (p .number) .width) (p .offset)
+  pub allowed-sound : {p : Pair} → Allowed s p → Sound s (signalOf s (p .number)) (p .offset)
   allowed-sound {p} a = newest-sound s (p .number) (p .offset) (a .change) (a .chain) .0
 
   -- so it ends above its start and at or below T
   pub allowed-fits : {p : Pair} → Allowed s p → Fits (endAt s) (endOf s) p
   unfolding endAt
   allowed-fits {p} a =
-      let after = end-after s (endOf s) (ownFacts s (p .number) .kind) (ownFacts s (p .number) .width) (p .offset) in
+      let after = end-after s (signalOf s (p .number)) (p .offset) in
       record { starts = omega arith; ends = allowed-sound a .ends }
 
   -- check 17, by the changes from the sync entries of all roots

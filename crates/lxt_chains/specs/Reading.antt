@@ -4,6 +4,7 @@ use mathlib.Core.Path.{_≡_}
 use mathlib.Core.Bool.{true, false}
 use mathlib.Core.List.{List}
 use lib.ListN.{length, getD}
+use Rattle.lxt_format.specs.Limits.{longestFile, mostFacilities}
 use Rattle.lxt_format.specs.Sections.{endOf, changesFrom}
 use Rattle.lxt_format.specs.Basics.{if_then_else_}
 use Rattle.lxt_format.specs.Geometry.{isAlias, geometriesAllowed, syncOf}
@@ -22,12 +23,12 @@ pub record Ready (s : List ℕ) (c : Chains) : Type 0 where
   pub from : c .from ≡ changesFrom s
   pub end : c .end ≡ endOf s
   pub within : c .end ≤ length s
-  pub short : length s ≤ 16777216
+  pub short : length s ≤ longestFile
   pub zero : LastZero s (c .end) (c .zero)
   pub geometry : Geometry s (c .geometry) (c .facilities)
   pub sync : Sync s (c .sync) (c .facilities)
   pub allowed : geometriesAllowed s ≡ true
-  pub most : c .facilities ≤ 4096
+  pub most : c .facilities ≤ mostFacilities
 
 -- a change of a root that lies in the file, and a bound in the file
 pub record Stepping (s : List ℕ) (c : Chains) (f o bound : ℕ) : Type 0 where

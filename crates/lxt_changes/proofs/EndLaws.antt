@@ -11,7 +11,7 @@ use native.Mathlib.Numerals.{add-one}
 use borrow.Author.Tests.{le-leb, lt-leb}
 use Rattle.lxt_format.specs.Bytes.{byteAt, toZero}
 use Rattle.lxt_format.specs.BytesLaws.{zero-here, zero-later}
-use Rattle.lxt_format.specs.Changes.{commandOf, deltaSize, dataAt, symbolSize, packedSize, dataSize, changeEnd}
+use Rattle.lxt_format.specs.Changes.{signal, commandOf, deltaSize, dataAt, symbolSize, packedSize, dataSize, changeEnd}
 use Rattle.lxt_format.specs.declared.Kind.{Kind}
 use Rattle.lxt_format.specs.declared.Kind.the-variants.{Bits, Integer, Real, Text}
 
@@ -53,18 +53,18 @@ module _ (s : List ℕ) (end : ℕ) (fits : end ≤ length s) where
 
 module _ (s : List ℕ) (T : ℕ) (kind : Kind) (width o bound d : ℕ) (ed : d ≡ deltaSize s o) where
   module _ (b size : ℕ) (eb : b ≡ symbolSize (byteAt s o % 16)) (es : size ≡ packedSize b width) where
-    pub bits-end : kind ≡ Bits → leb (o + 1 + d + size) bound ≡ leb (changeEnd s T kind width o) bound
+    pub bits-end : kind ≡ Bits → leb (o + 1 + d + size) bound ≡ leb (changeEnd s (signal 0 T kind width) o) bound
     unfolding changeEnd dataSize dataAt commandOf
     bits-end e = rw (e, es, eb, ed)
 
-    pub integer-end : kind ≡ Integer → leb (o + 1 + d + size) bound ≡ leb (changeEnd s T kind width o) bound
+    pub integer-end : kind ≡ Integer → leb (o + 1 + d + size) bound ≡ leb (changeEnd s (signal 0 T kind width) o) bound
     unfolding changeEnd dataSize dataAt commandOf
     integer-end e = rw (e, es, eb, ed)
 
-  pub real-end : kind ≡ Real → leb (o + 1 + d + 8) bound ≡ leb (changeEnd s T kind width o) bound
+  pub real-end : kind ≡ Real → leb (o + 1 + d + 8) bound ≡ leb (changeEnd s (signal 0 T kind width) o) bound
   unfolding changeEnd dataSize dataAt
   real-end e = rw (e, ed)
 
-  pub text-end : kind ≡ Text → (z : Bool) → z ≡ leb (o + 1 + d + (toZero (slice (o + 1 + d) T s) + 1)) bound → z ≡ leb (changeEnd s T kind width o) bound
+  pub text-end : kind ≡ Text → (z : Bool) → z ≡ leb (o + 1 + d + (toZero (slice (o + 1 + d) T s) + 1)) bound → z ≡ leb (changeEnd s (signal 0 T kind width) o) bound
   unfolding changeEnd dataSize dataAt
   text-end e z ez = ez ∙ rw (e, ed)

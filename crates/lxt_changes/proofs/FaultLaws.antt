@@ -10,12 +10,13 @@ use lib.Dec.{ltb, leb, lit<}
 use native.Mathlib.Omega.{arith}
 use native.Mathlib.Decide.{ℕ-discrete, decLe}
 use borrow.Author.Tests.{eq-eqb, ne-eqb, le-leb, lt-leb, lt-ltb, le-ltb, leb-true, ltb-true}
+use Rattle.lxt_format.specs.Limits.{widestFacility}
 use Rattle.lxt_format.specs.Basics.{_unless_, _orElse_}
 use Rattle.lxt_format.specs.Bytes.{byteAt, toZero}
 use Rattle.lxt_format.specs.BasicsLaws.{neither, kept, stops, and-both}
 use Rattle.lxt_format.specs.ChangesLaws.{previous-lt, faults-none, faults-next, faults-here, sound}
 use Rattle.lxt_format.specs.BytesLaws.{at-zero, zero-bounds}
-use Rattle.lxt_format.specs.Changes.{commandOf, deltaSize, dataAt, previousOf, commandAllowed, symbolSize, packedSize, symbolsAllowed, dataSize, dataAllowed, changeEnd, previousAllowed, faultAt, chainFault}
+use Rattle.lxt_format.specs.Changes.{signal, commandOf, deltaSize, dataAt, previousOf, commandAllowed, symbolSize, packedSize, symbolsAllowed, dataSize, dataAllowed, changeEnd, previousAllowed, faultAt, chainFault}
 use Rattle.lxt_format.specs.declared.Kind.{Kind}
 use Rattle.lxt_format.specs.declared.Kind.the-variants.{Bits, Integer, Real, Text}
 use Rattle.lxt_changes.specs.Windows.{Known, Answered, Data}
@@ -95,7 +96,7 @@ module _ (s : List ℕ) (T width o : ℕ) (b size d : ℕ) (eb : b ≡ symbolSiz
     symbols-out h = record { number = (let g : T < dataAt s o + packedSize (symbolSize (commandOf s o)) width = rw end-is h in simp (lt-leb _ _ g)); known = k }
 
   module _ (h : o + 1 + d + size ≤ T) where
-    pub data-there : 1 ≤ width → width ≤ 4096 → T ≤ length s → Data s b width (o + 1 + d)
+    pub data-there : 1 ≤ width → width ≤ widestFacility → T ≤ length s → Data s b width (o + 1 + d)
     data-there least most fits = record { symbols = rw eb (symbol-cases (byteAt s o % 16)); least = least; most = most; inside = rw (← es) (omega arith) }
 
     module _ (c : Checked) (a : Answered s (symbolsAllowed s b width (o + 1 + d)) c) where
@@ -117,17 +118,17 @@ module _ (s : List ℕ) (T width o : ℕ) (b size d : ℕ) (eb : b ≡ symbolSiz
 -- ---- reals and texts
 
 module _ (s : List ℕ) (T o d : ℕ) (ed : d ≡ deltaSize s o) where
-  real-end : changeEnd s T Real 0 o ≡ o + 1 + d + 8
+  real-end : changeEnd s (signal 0 T Real 0) o ≡ o + 1 + d + 8
   unfolding changeEnd dataSize dataAt
   real-end = rw ed
 
   pub real-out : T < o + 1 + d + 8 → 15 ≡ bodyFault s T Real 0 o
   unfolding bodyFault
-  real-out h = let g : T < changeEnd s T Real 0 o = rw real-end h in simp (lt-leb _ _ g)
+  real-out h = let g : T < changeEnd s (signal 0 T Real 0) o = rw real-end h in simp (lt-leb _ _ g)
 
   pub real-in : o + 1 + d + 8 ≤ T → 0 ≡ bodyFault s T Real 0 o
   unfolding bodyFault dataAllowed
-  real-in h = let g : changeEnd s T Real 0 o ≤ T = rw real-end h in simp (le-leb _ _ g)
+  real-in h = let g : changeEnd s (signal 0 T Real 0) o ≤ T = rw real-end h in simp (le-leb _ _ g)
 
 -- the byte i of a part of the file
 part-at : (s : List ℕ) (p T i : ℕ) → p + i < T → getD (slice p T s) i 0 ≡ byteAt s (p + i)
@@ -155,17 +156,17 @@ module _ (s : List ℕ) (T z : ℕ) (w : LastZero s T z) (fits : T ≤ length s)
       ]
 
 module _ (s : List ℕ) (T z o d : ℕ) (w : LastZero s T z) (fits : T ≤ length s) (ed : d ≡ deltaSize s o) where
-  text-end : changeEnd s T Text 0 o ≡ (o + 1 + d) + (toZero (slice (o + 1 + d) T s) + 1)
+  text-end : changeEnd s (signal 0 T Text 0) o ≡ (o + 1 + d) + (toZero (slice (o + 1 + d) T s) + 1)
   unfolding changeEnd dataSize dataAt
   text-end = rw ed
 
   pub text-out : z ≤ o + 1 + d → 15 ≡ bodyFault s T Text 0 o
   unfolding bodyFault
-  text-out h = let g : T < changeEnd s T Text 0 o = rw text-end (passes s T z w fits (o + 1 + d) h) in simp (lt-leb _ _ g)
+  text-out h = let g : T < changeEnd s (signal 0 T Text 0) o = rw text-end (passes s T z w fits (o + 1 + d) h) in simp (lt-leb _ _ g)
 
   pub text-in : o + 1 + d < z → 0 ≡ bodyFault s T Text 0 o
   unfolding bodyFault dataAllowed
-  text-in h = let g : changeEnd s T Text 0 o ≤ T = rw text-end (ends-before s T z w fits (o + 1 + d) h) in simp (le-leb _ _ g)
+  text-in h = let g : changeEnd s (signal 0 T Text 0) o ≤ T = rw text-end (ends-before s T z w fits (o + 1 + d) h) in simp (le-leb _ _ g)
 
 -- ---- a change of any kind
 
@@ -204,16 +205,16 @@ in-two a b c d e = sym (or-assoc a b ((c orElse d) orElse e) ∙ ap (λ x. a orE
 pub body-ends : (s : List ℕ) (T : ℕ) (kind : Kind) (width o : ℕ) → bodyFault s T kind width o ≡ 0 → dataAt s o ≤ T
 unfolding bodyFault changeEnd
 body-ends s T kind width o h =
-    let a = neither (15 unless leb (dataAt s o + dataSize s T kind width o) T) (16 unless dataAllowed s kind width o) h in
-    let b = leb-true (dataAt s o + dataSize s T kind width o) T (kept 15 _ (lit< tt) (a .0)) in
+    let a = neither (15 unless leb (dataAt s o + dataSize s (signal 0 T kind width) o) T) (16 unless dataAllowed s (signal 0 T kind width) o) h in
+    let b = leb-true (dataAt s o + dataSize s (signal 0 T kind width) o) T (kept 15 _ (lit< tt) (a .0)) in
     omega arith
 
 module _ (s : List ℕ) (C T : ℕ) (kind : Kind) (width o : ℕ) where
-  tests : faultAt s C T kind width o ≡ (startFault s C T kind o orElse (bodyFault s T kind width o orElse 15 unless previousAllowed s C o))
-  unfolding faultAt startFault bodyFault
+  tests : faultAt s (signal C T kind width) o ≡ (startFault s C T kind o orElse (bodyFault s T kind width o orElse 15 unless previousAllowed s C o))
+  unfolding faultAt startFault bodyFault changeEnd dataSize dataAllowed
   tests =
       in-two (15 unless (leb C o && ltb o T)) (16 unless (ltb (byteAt s o) 0x40 && commandAllowed kind (commandOf s o)))
-      (15 unless leb (changeEnd s T kind width o) T) (16 unless dataAllowed s kind width o) (15 unless previousAllowed s C o)
+      (15 unless leb (changeEnd s (signal 0 T kind width) o) T) (16 unless dataAllowed s (signal 0 T kind width) o) (15 unless previousAllowed s C o)
 
   -- a start without a fault lies before T
   pub starts-before : (v : ℕ) → v ≡ startFault s C T kind o → v ≡ 0 → o < T
@@ -224,24 +225,24 @@ module _ (s : List ℕ) (C T : ℕ) (kind : Kind) (width o : ℕ) where
       ltb-true o T (b .1)
 
   module _ (v : ℕ) (ev : v ≡ startFault s C T kind o) where
-    pub bad-start : (w : Window) → Known s w → (v ≡ 0 → ⊥) → Found s (faultAt s C T kind width o) (record { fault = v; window = w })
+    pub bad-start : (w : Window) → Known s w → (v ≡ 0 → ⊥) → Found s (faultAt s (signal C T kind width) o) (record { fault = v; window = w })
     bad-start w k n = record { number = sym (tests ∙ rw (← ev) (stops v _ n)); known = k }
 
     module _ (hv : v ≡ 0) (r : Faulted) (f : Found s (bodyFault s T kind width o) r) where
-      rest : faultAt s C T kind width o ≡ (r .fault orElse 15 unless previousAllowed s C o)
+      rest : faultAt s (signal C T kind width) o ≡ (r .fault orElse 15 unless previousAllowed s C o)
       rest = tests ∙ rw (← ev, hv, f .number)
 
-      pub bad-body : (r .fault ≡ 0 → ⊥) → Found s (faultAt s C T kind width o) r
+      pub bad-body : (r .fault ≡ 0 → ⊥) → Found s (faultAt s (signal C T kind width) o) r
       bad-body n = record { number = sym (rest ∙ stops (r .fault) _ n); known = f .known }
 
       pub body-inside : r .fault ≡ 0 → T ≤ length s → dataAt s o ≤ length s
       body-inside z l = let b = body-ends s T kind width o (sym (f .number) ∙ z) in omega arith
 
       module _ (z : r .fault ≡ 0) (q : Bool) (eq : q ≡ previousAllowed s C o) where
-        pub bad-previous : q ≡ false → Found s (faultAt s C T kind width o) (record { fault = 15; window = r .window })
+        pub bad-previous : q ≡ false → Found s (faultAt s (signal C T kind width) o) (record { fault = 15; window = r .window })
         bad-previous h = record { number = sym (rest ∙ rw (z, ← eq, h)); known = f .known }
 
-        pub no-fault : q ≡ true → Found s (faultAt s C T kind width o) (record { fault = 0; window = r .window })
+        pub no-fault : q ≡ true → Found s (faultAt s (signal C T kind width) o) (record { fault = 0; window = r .window })
         no-fault h = record { number = sym (rest ∙ rw (z, ← eq, h)); known = f .known }
 
 -- ---- a chain
@@ -249,31 +250,31 @@ module _ (s : List ℕ) (C T : ℕ) (kind : Kind) (width o : ℕ) where
 -- what is left of a chain has the first fault of the whole
 pub record Left (s : List ℕ) (C T : ℕ) (kind : Kind) (width start o : ℕ) (w : Window) : Type 0 where
   pub known : Known s w
-  pub whole : chainFault s C T kind width o ≡ chainFault s C T kind width start
+  pub whole : chainFault s (signal C T kind width) o ≡ chainFault s (signal C T kind width) start
 
 module _ (s : List ℕ) (C T : ℕ) (kind : Kind) (width start : ℕ) where
   pub at-start : Left s C T kind width start start (record { from = 0; to = 0 })
   at-start = record { known = record { good = λ i a b. absurd (omega arith); within = zero-le }; whole = refl }
 
   module _ (o : ℕ) (w : Window) (l : Left s C T kind width start o w) where
-    pub at-end : o ≡ 0 → 0 ≡ chainFault s C T kind width start
-    at-end e = sym (faults-none s C T kind width) ∙ (rw e at (l .whole))
+    pub at-end : o ≡ 0 → 0 ≡ chainFault s (signal C T kind width) start
+    at-end e = sym (faults-none s (signal C T kind width)) ∙ (rw e at (l .whole))
 
-    module _ (some : o ≡ 0 → ⊥) (r : Faulted) (f : Found s (faultAt s C T kind width o) r) where
-      pub fault-found : (r .fault ≡ 0 → ⊥) → r .fault ≡ chainFault s C T kind width start
-      fault-found n = f .number ∙ sym (faults-here s C T kind width o (omega arith) (λ z. n (f .number ∙ z))) ∙ l .whole
+    module _ (some : o ≡ 0 → ⊥) (r : Faulted) (f : Found s (faultAt s (signal C T kind width) o) r) where
+      pub fault-found : (r .fault ≡ 0 → ⊥) → r .fault ≡ chainFault s (signal C T kind width) start
+      fault-found n = f .number ∙ sym (faults-here s (signal C T kind width) o (omega arith) (λ z. n (f .number ∙ z))) ∙ l .whole
 
       pub inside : r .fault ≡ 0 → T ≤ length s → (o < length s) × (dataAt s o ≤ length s)
       inside z fits =
-          let g = sound s C T kind width o (sym (f .number) ∙ z) in
+          let g = sound s (signal C T kind width) o (sym (f .number) ∙ z) in
           let a = g .before in
           let b = g .ends in
-          let c : dataAt s o ≤ changeEnd s T kind width o = (unfold changeEnd in omega arith) in
+          let c : dataAt s o ≤ changeEnd s (signal C T kind width) o = (unfold changeEnd in omega arith) in
           (omega arith, omega arith)
 
       pub next-left : r .fault ≡ 0 → (p : ℕ) → p ≡ previousOf s o → Left s C T kind width start p (r .window)
       next-left z p e =
-          record { known = f .known; whole = rw e (sym (faults-next s C T kind width o (omega arith) (sym (f .number) ∙ z)) ∙ l .whole) }
+          record { known = f .known; whole = rw e (sym (faults-next s (signal C T kind width) o (omega arith) (sym (f .number) ∙ z)) ∙ l .whole) }
 
       pub falls : (p : ℕ) → p ≡ previousOf s o → p < o
       falls p e = let a = previous-lt s o (omega arith) in omega arith

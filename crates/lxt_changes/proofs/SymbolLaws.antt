@@ -10,6 +10,7 @@ use native.Mathlib.Omega.{arith}
 use native.Mathlib.Nat.{mul-le-mul}
 use native.Mathlib.Decide.{ℕ-discrete, decLe}
 use borrow.Author.Tests.{ne-eqb, le-leb, lt-leb}
+use Rattle.lxt_format.specs.Limits.{widestFacility}
 use Rattle.lxt_format.specs.Basics.{range, all}
 use Rattle.lxt_format.specs.BasicsLaws.{range-all, all-range, on-test}
 use Rattle.lxt_format.specs.Bytes.{byteAt}
@@ -60,10 +61,10 @@ module _ (c : ℕ) where
 
 -- ---- sizes
 
-pub product : (b width : ℕ) → b ≤ 4 → width ≤ 4096 → b * width ≤ 16384
+pub product : (b width : ℕ) → b ≤ 4 → width ≤ widestFacility → b * width ≤ 16384
 product b width h k = mul-le-mul h k
 
-pub packed-is : (b width : ℕ) → b ≤ 4 → width ≤ 4096 → ((b * width + 7) / 8 ≡ packedSize b width) × ((b * width + 7) / 8 ≤ 2048)
+pub packed-is : (b width : ℕ) → b ≤ 4 → width ≤ widestFacility → ((b * width + 7) / 8 ≡ packedSize b width) × ((b * width + 7) / 8 ≤ 2048)
 unfolding packedSize
 packed-is b width h k = (refl, omega (arith, product b width h k))
 

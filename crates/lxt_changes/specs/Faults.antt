@@ -5,9 +5,10 @@ use mathlib.Core.Bool.{Bool, true, false, _&&_}
 use mathlib.Core.List.{List}
 use lib.ListN.{length}
 use lib.Dec.{ltb, leb}
+use Rattle.lxt_format.specs.Limits.{widestFacility}
 use Rattle.lxt_format.specs.Basics.{_unless_, _orElse_}
 use Rattle.lxt_format.specs.Bytes.{byteAt}
-use Rattle.lxt_format.specs.Changes.{commandOf, dataAt, commandAllowed, symbolSize, packedSize, symbolsAllowed, dataAllowed, changeEnd}
+use Rattle.lxt_format.specs.Changes.{signal, commandOf, dataAt, commandAllowed, symbolSize, packedSize, symbolsAllowed, dataAllowed, changeEnd}
 use Rattle.lxt_format.specs.declared.Kind.{Kind}
 use Rattle.lxt_format.specs.declared.Kind.the-variants.{Bits, Integer, Real, Text}
 use Rattle.lxt_changes.specs.Windows.{Known}
@@ -25,9 +26,9 @@ startFault s C T kind o =
     15 unless (leb C o && ltb o T)
     orElse 16 unless (ltb (byteAt s o) 0x40 && commandAllowed kind (commandOf s o))
 
--- the end and the data
+-- the end and the data, for which C does not matter: 0 stands for it
 unfoldable pub bodyFault : List ℕ → ℕ → Kind → ℕ → ℕ → ℕ
-bodyFault s T kind width o = 15 unless leb (changeEnd s T kind width o) T orElse 16 unless dataAllowed s kind width o
+bodyFault s T kind width o = 15 unless leb (changeEnd s (signal 0 T kind width) o) T orElse 16 unless dataAllowed s (signal 0 T kind width) o
 
 -- the same for a change of symbols
 unfoldable pub symbolFault : List ℕ → ℕ → ℕ → ℕ → ℕ
@@ -52,4 +53,4 @@ pub record Setting (s : List ℕ) (T z : ℕ) (kind : Kind) (width : ℕ) : Type
   pub within : T ≤ length s
   pub last : LastZero s T z
   pub least : symbolic kind ≡ true → 1 ≤ width
-  pub most : width ≤ 4096
+  pub most : width ≤ widestFacility

@@ -6,6 +6,7 @@ use mathlib.Core.Bool.{Bool, true, false, _&&_}
 use mathlib.Core.List.{List}
 use lib.ListN.{length}
 use lib.Dec.{leb}
+use Rattle.lxt_format.specs.Limits.{widestFacility}
 use Rattle.lxt_format.specs.Basics.{range, all}
 use Rattle.lxt_format.specs.Bytes.{byteAt}
 use Rattle.lxt_format.specs.Changes.{packedSize}
@@ -44,5 +45,5 @@ pub record Answered (s : List ℕ) (allowed : Bool) (r : Checked) : Type 0 where
 pub record Data (s : List ℕ) (b width at : ℕ) : Type 0 where
   pub symbols : ((b ≡ 0) ⊎ (b ≡ 1)) ⊎ ((b ≡ 2) ⊎ (b ≡ 4))
   pub least : 1 ≤ width
-  pub most : width ≤ 4096
+  pub most : width ≤ widestFacility
   pub inside : at + packedSize b width ≤ length s

@@ -4,8 +4,9 @@ ghost use Prim.Native.Nat.{_+_, _≤_, _<_};
 ghost use lib.Dec.{ltb, leb};
 ghost use lib.ListN.{length};
 ghost use lib.Seq.{slice};
+ghost use Rattle.lxt_format.specs.Limits.{widestFacility};
 ghost use Rattle.lxt_format.specs.Bytes.{toZero};
-ghost use Rattle.lxt_format.specs.Changes.{changeEnd};
+ghost use Rattle.lxt_format.specs.Changes.{signal, changeEnd};
 use crate::delta;
 use crate::symbols;
 use lxt_format::Kind;
@@ -26,10 +27,10 @@ fn zero_before(file: &[u8], from: usize, bound: usize, end: usize) -> bool
     false
 }
 
-// The change at `o` ends at or below `bound`; T is `end`.
+// The change at `o` ends at or below `bound`; T is `end`. C does not matter: 0 stands for it.
 pub fn ends_by(file: &[u8], end: usize, kind: Kind, width: u32, o: usize, bound: usize) -> bool
-    requires { ⌜ (width ≤ 4096) × ((o < length (now file)) × ((bound ≤ end) × (end ≤ length (now file)))) ⌝ }
-    ensures { λ r. ⌜ r ≡ leb (changeEnd (now (file .entry)) end kind width o) bound ⌝ }
+    requires { ⌜ (width ≤ widestFacility) × ((o < length (now file)) × ((bound ≤ end) × (end ≤ length (now file)))) ⌝ }
+    ensures { λ r. ⌜ r ≡ leb (changeEnd (now (file .entry)) (signal 0 end kind width) o) bound ⌝ }
 {
     let at = o + 1 + delta::size_of(file, o);
     let b = symbols::size_of(file[o]);

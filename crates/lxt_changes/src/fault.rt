@@ -5,7 +5,8 @@ ghost use Prim.Native.Nat.{_+_, _*_, _-_, _≤_, _<_};
 ghost use lib.Dec.{ltb, leb};
 ghost use lib.ListN.{length};
 ghost use Rattle.lxt_changes.specs.Windows.{Known};
-ghost use Rattle.lxt_format.specs.Changes.{faultAt, chainFault};
+ghost use Rattle.lxt_format.specs.Limits.{widestFacility};
+ghost use Rattle.lxt_format.specs.Changes.{signal, faultAt, chainFault};
 ghost use Rattle.lxt_changes.specs.Faults.{LastZero, startFault, symbolFault, bodyFault, Found, Setting};
 use crate::delta;
 use crate::symbols;
@@ -52,7 +53,7 @@ fn start_fault(file: &[u8], from: usize, end: usize, kind: Kind, o: usize) -> u8
 
 // The next two tests, of a change of symbols: the whole change before T, and its data.
 fn symbol_fault(file: &[u8], end: usize, width: u32, o: usize, w: Window) -> Faulted
-    requires { ⌜ Known (now file) w × (((1 ≤ width) × (width ≤ 4096)) × ((o < end) × (end ≤ length (now file)))) ⌝ }
+    requires { ⌜ Known (now file) w × (((1 ≤ width) × (width ≤ widestFacility)) × ((o < end) × (end ≤ length (now file)))) ⌝ }
     ensures { λ r. ⌜ Found (now (file .entry)) (symbolFault (now (file .entry)) end width o) r ⌝ }
 {
     let b = symbols::size_of(file[o]);
@@ -139,7 +140,7 @@ pub fn change_fault(
     w: Window,
 ) -> Faulted
     requires { ⌜ Setting (now file) end zero kind width × Known (now file) w ⌝ }
-    ensures { λ r. ⌜ Found (now (file .entry)) (faultAt (now (file .entry)) from end kind width o) r ⌝ }
+    ensures { λ r. ⌜ Found (now (file .entry)) (faultAt (now (file .entry)) (signal from end kind width) o) r ⌝ }
 {
     let first = start_fault(file, from, end, kind, o);
     if first != 0 {
@@ -176,7 +177,7 @@ pub fn first_fault(
     start: usize,
 ) -> u8
     requires { ⌜ Setting (now file) end zero kind width ⌝ }
-    ensures { λ r. ⌜ r ≡ chainFault (now (file .entry)) from end kind width start ⌝ }
+    ensures { λ r. ⌜ r ≡ chainFault (now (file .entry)) (signal from end kind width) start ⌝ }
 {
     let mut o = start;
     let mut w = Window { from: 0, to: 0 };

@@ -5,6 +5,7 @@ ghost use mathlib.Core.Bool.{_&&_};
 ghost use Prim.Native.Nat.{_+_, _*_, _-_, _≤_, _<_, _/_, _%_, _^_};
 ghost use lib.Dec.{ltb, leb};
 ghost use lib.ListN.{length};
+ghost use Rattle.lxt_format.specs.Limits.{widestFacility};
 ghost use Rattle.lxt_format.specs.Changes.{commandAllowed, symbolSize, packedSize, paddingAllowed, symbolsAllowed};
 ghost use Rattle.lxt_changes.specs.Windows.{goodByte, allGood, Scanned, Known, Answered, Data};
 use lxt_format::Kind;
@@ -42,7 +43,7 @@ pub fn size_of(byte: u8) -> u32
 
 // The bytes that `width` symbols of `b` bits fill.
 pub fn packed_size(b: u32, width: u32) -> usize
-    requires { ⌜ (b ≤ 4) × (width ≤ 4096) ⌝ }
+    requires { ⌜ (b ≤ 4) × (width ≤ widestFacility) ⌝ }
     ensures { λ r. ⌜ (r ≡ packedSize b width) × (r ≤ 2048) ⌝ }
 {
     ((b as usize) * (width as usize) + 7) / 8
@@ -66,7 +67,7 @@ fn power_of_2(k: usize) -> u32
 
 // The bits of the last data byte that no symbol uses are 0.
 fn padding_allowed(file: &[u8], b: u32, width: u32, at: usize) -> bool
-    requires { ⌜ ((1 ≤ b) × (b ≤ 4)) × (((1 ≤ width) × (width ≤ 4096)) × (at + packedSize b width ≤ length (now file))) ⌝ }
+    requires { ⌜ ((1 ≤ b) × (b ≤ 4)) × (((1 ≤ width) × (width ≤ widestFacility)) × (at + packedSize b width ≤ length (now file))) ⌝ }
     ensures { λ r. ⌜ r ≡ paddingAllowed (now (file .entry)) b width at ⌝ }
 {
     let size = packed_size(b, width);

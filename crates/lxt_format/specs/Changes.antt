@@ -71,22 +71,40 @@ paddingAllowed s b width o = eqb (byteAt s (o + packedSize b width - 1) % 2 ^ (8
 unfoldable pub symbolsAllowed : List ℕ → ℕ → ℕ → ℕ → Bool
 symbolsAllowed s b width o = eqb b 0 || (codesAllowed s b width o && paddingAllowed s b width o)
 
--- the bytes of a change's data: for a real "8 bytes", for a text "bytes up to and with a zero". Where no zero stands before T, that passes T.
-unfoldable pub dataSize : List ℕ → ℕ → Kind → ℕ → ℕ → ℕ
-dataSize s T Bits width o = packedSize (symbolSize (commandOf s o)) width
-dataSize s T Integer width o = packedSize (symbolSize (commandOf s o)) width
-dataSize s T Real width o = 8
-dataSize s T Text width o = toZero (slice (dataAt s o) T s) + 1
+-- ---- the changes of a facility
 
-unfoldable pub dataAllowed : List ℕ → Kind → ℕ → ℕ → Bool
-dataAllowed s Bits width o = symbolsAllowed s (symbolSize (commandOf s o)) width (dataAt s o)
-dataAllowed s Integer width o = symbolsAllowed s (symbolSize (commandOf s o)) width (dataAt s o)
-dataAllowed s Real width o = true
-dataAllowed s Text width o = true
+-- how they are read: they lie from C up to T, and have the facility's kind and width
+pub record Signal : Type 0 where
+  pub from : ℕ
+  pub end : ℕ
+  pub kind : Kind
+  pub width : ℕ
+
+abbrev pub signal : ℕ → ℕ → Kind → ℕ → Signal
+signal C T kind width = record { from = C; end = T; kind = kind; width = width }
+
+-- the bytes of a change's data: for a real "8 bytes", for a text "bytes up to and with a zero". Where no zero stands before T, that passes T.
+unfoldable pub dataSize : List ℕ → Signal → ℕ → ℕ
+dataSize s g o =
+    elim (g .kind) [
+      | Bits ↦ packedSize (symbolSize (commandOf s o)) (g .width)
+      | Integer ↦ packedSize (symbolSize (commandOf s o)) (g .width)
+      | Real ↦ 8
+      | Text ↦ toZero (slice (dataAt s o) (g .end) s) + 1
+    ]
+
+unfoldable pub dataAllowed : List ℕ → Signal → ℕ → Bool
+dataAllowed s g o =
+    elim (g .kind) [
+      | Bits ↦ symbolsAllowed s (symbolSize (commandOf s o)) (g .width) (dataAt s o)
+      | Integer ↦ symbolsAllowed s (symbolSize (commandOf s o)) (g .width) (dataAt s o)
+      | Real ↦ true
+      | Text ↦ true
+    ]
 
 -- the offset after a change's last byte
-unfoldable pub changeEnd : List ℕ → ℕ → Kind → ℕ → ℕ → ℕ
-changeEnd s T kind width o = dataAt s o + dataSize s T kind width o
+unfoldable pub changeEnd : List ℕ → Signal → ℕ → ℕ
+changeEnd s g o = dataAt s o + dataSize s g o
 
 -- ---- faults
 
@@ -94,15 +112,15 @@ changeEnd s T kind width o = dataAt s o + dataSize s T kind width o
 unfoldable pub previousAllowed : List ℕ → ℕ → ℕ → Bool
 previousAllowed s C o = leb (deltaOf s o + 2) o && (eqb (previousOf s o) 0 || leb C (previousOf s o))
 
--- "At each change: start (15), command byte (16), whole change before T (15), data (16), previous offset (15)." Of the change at o of a facility
--- of that kind and width; 0 where no rule is broken
-unfoldable pub faultAt : List ℕ → ℕ → ℕ → Kind → ℕ → ℕ → ℕ
-faultAt s C T kind width o =
-    15 unless (leb C o && ltb o T)
-    orElse 16 unless (ltb (byteAt s o) 0x40 && commandAllowed kind (commandOf s o))
-    orElse 15 unless leb (changeEnd s T kind width o) T
-    orElse 16 unless dataAllowed s kind width o
-    orElse 15 unless previousAllowed s C o
+-- "At each change: start (15), command byte (16), whole change before T (15), data (16), previous offset (15)." Of the change at o; 0 where no
+-- rule is broken
+unfoldable pub faultAt : List ℕ → Signal → ℕ → ℕ
+faultAt s g o =
+    15 unless (leb (g .from) o && ltb o (g .end))
+    orElse 16 unless (ltb (byteAt s o) 0x40 && commandAllowed (g .kind) (commandOf s o))
+    orElse 15 unless leb (changeEnd s g o) (g .end)
+    orElse 16 unless dataAllowed s g o
+    orElse 15 unless previousAllowed s (g .from) o
 
 -- ---- chains
 
@@ -110,11 +128,11 @@ faultAt s C T kind width o =
 -- least, so that o bounds their number.
 unfoldable pub chainWithin : ℕ → List ℕ → ℕ → List ℕ
 chainWithin zero s o = []
-chainWithin (suc k) s o = let rest : List ℕ = chainWithin k s (previousOf s o) in if eqb o 0 then [] else o ∷ rest
+chainWithin (suc k) s o = if eqb o 0 then [] else o ∷ chainWithin k s (previousOf s o)
 
 unfoldable pub chainOf : List ℕ → ℕ → List ℕ
 chainOf s o = chainWithin o s o
 
 -- the first fault of the chain from o on, newest change first
-unfoldable pub chainFault : List ℕ → ℕ → ℕ → Kind → ℕ → ℕ → ℕ
-chainFault s C T kind width o = firstFault (map (faultAt s C T kind width) (chainOf s o))
+unfoldable pub chainFault : List ℕ → Signal → ℕ → ℕ
+chainFault s g o = firstFault (map (faultAt s g) (chainOf s o))

@@ -10,7 +10,7 @@ use borrow.Author.Tests.{eq-eqb, ne-eqb, leb-true, ltb-true}
 use Rattle.lxt_format.specs.Basics.{firstFault}
 use Rattle.lxt_format.specs.BasicsLaws.{and-both, kept, neither, fault-next, fault-here}
 use Rattle.lxt_format.specs.Bytes.{byteAt}
-use Rattle.lxt_format.specs.Changes.{commandOf, deltaSize, dataAt, previousOf, commandAllowed, dataAllowed, changeEnd, previousAllowed, faultAt, chainWithin, chainOf, chainFault}
+use Rattle.lxt_format.specs.Changes.{Signal, signal, commandOf, deltaSize, dataAt, previousOf, commandAllowed, dataSize, dataAllowed, changeEnd, previousAllowed, faultAt, chainWithin, chainOf, chainFault}
 use Rattle.lxt_format.specs.declared.Kind.{Kind}
 
 -- ---- the previous change
@@ -57,30 +57,30 @@ chain-more s (suc o) h =
 
 -- ---- faults of a chain: those of its newest change, then those of the rest
 
-module _ (s : List ℕ) (C T : ℕ) (kind : Kind) (width : ℕ) where
-  pub faults-none : chainFault s C T kind width 0 ≡ 0
+module _ (s : List ℕ) (g : Signal) where
+  pub faults-none : chainFault s g 0 ≡ 0
   unfolding chainFault firstFault
   faults-none = rw (chain-none s)
 
-  pub faults-next : (o : ℕ) → 0 < o → faultAt s C T kind width o ≡ 0 → chainFault s C T kind width o ≡ chainFault s C T kind width (previousOf s o)
+  pub faults-next : (o : ℕ) → 0 < o → faultAt s g o ≡ 0 → chainFault s g o ≡ chainFault s g (previousOf s o)
   unfolding chainFault
   faults-next o h e = rw (chain-more s o h) (fault-next _ _ e)
 
-  pub faults-here : (o : ℕ) → 0 < o → (faultAt s C T kind width o ≡ 0 → ⊥) → chainFault s C T kind width o ≡ faultAt s C T kind width o
+  pub faults-here : (o : ℕ) → 0 < o → (faultAt s g o ≡ 0 → ⊥) → chainFault s g o ≡ faultAt s g o
   unfolding chainFault
   faults-here o h n = rw (chain-more s o h) (fault-here _ _ n)
 
   -- what a change without a fault keeps
   pub record Sound (o : ℕ) : Type 0 where
-    pub starts : C ≤ o
-    pub before : o < T
+    pub starts : g .from ≤ o
+    pub before : o < g .end
     pub top : byteAt s o < 0x40
-    pub command : commandAllowed kind (commandOf s o) ≡ true
-    pub ends : changeEnd s T kind width o ≤ T
-    pub data′ : dataAllowed s kind width o ≡ true
-    pub previous : previousAllowed s C o ≡ true
+    pub command : commandAllowed (g .kind) (commandOf s o) ≡ true
+    pub ends : changeEnd s g o ≤ g .end
+    pub data′ : dataAllowed s g o ≡ true
+    pub previous : previousAllowed s (g .from) o ≡ true
 
-  pub sound : (o : ℕ) → faultAt s C T kind width o ≡ 0 → Sound o
+  pub sound : (o : ℕ) → faultAt s g o ≡ 0 → Sound o
   unfolding faultAt
   sound o h =
       let a = neither _ _ h in
@@ -90,8 +90,8 @@ module _ (s : List ℕ) (C T : ℕ) (kind : Kind) (width : ℕ) where
       let start = and-both _ _ (kept 15 _ (lit< tt) (a .0)) in
       let byte = and-both _ _ (kept 16 _ (lit< tt) (b .0)) in
       record {
-        starts = leb-true C o (start .0);
-        before = ltb-true o T (start .1);
+        starts = leb-true (g .from) o (start .0);
+        before = ltb-true o (g .end) (start .1);
         top = ltb-true _ _ (byte .0);
         command = byte .1;
         ends = leb-true _ _ (kept 15 _ (lit< tt) (c .0));
@@ -104,6 +104,11 @@ pub data-after : (s : List ℕ) (o : ℕ) → o + 2 ≤ dataAt s o
 unfolding dataAt deltaSize
 data-after s o = omega arith
 
-pub end-after : (s : List ℕ) (T : ℕ) (kind : Kind) (width o : ℕ) → o + 2 ≤ changeEnd s T kind width o
+-- where a change ends does not depend on C
+pub end-any : (C D T : ℕ) (kind : Kind) (width : ℕ) (s : List ℕ) (o : ℕ) → changeEnd s (signal C T kind width) o ≡ changeEnd s (signal D T kind width) o
+unfolding changeEnd dataSize
+end-any C D T kind width s o = refl
+
+pub end-after : (s : List ℕ) (g : Signal) (o : ℕ) → o + 2 ≤ changeEnd s g o
 unfolding changeEnd
-end-after s T kind width o = omega (arith, data-after s o)
+end-after s g o = omega (arith, data-after s o)

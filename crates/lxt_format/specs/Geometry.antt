@@ -70,9 +70,8 @@ ownFacts s f = factsBy (kindOfFlags (flagsOf s f)) (msbOf s f) (lsbOf s f)
 unfoldable pub rootWithin : ℕ → List ℕ → ℕ → ℕ
 rootWithin zero s f = facilityCount s
 rootWithin (suc k) s f =
-    let next : ℕ = rootWithin k s (rowsOf s f) in
     if leb (facilityCount s) f then facilityCount s
-    else if isAlias s f then next
+    else if isAlias s f then rootWithin k s (rowsOf s f)
     else f
 
 unfoldable pub rootOf : List ℕ → ℕ → ℕ

@@ -9,7 +9,8 @@ use Rattle.lxt_format.specs.Names.{namesAllowed}
 use Rattle.lxt_format.specs.Geometry.{geometriesAllowed, aliasesAllowed, rootsOf, ownFacts, syncOf}
 use Rattle.lxt_format.specs.Times.{timesAllowed}
 use Rattle.lxt_format.specs.Reals.{realTestAllowed}
-use Rattle.lxt_format.specs.Changes.{chainOf, chainFault, changeEnd}
+use Rattle.lxt_format.specs.Changes.{Signal, changeEnd, chainOf, chainFault}
+use Rattle.lxt_format.specs.declared.Facts.{Facts}
 use Rattle.lxt_format.specs.declared.Pair.{Pair}
 use Rattle.lxt_format.specs.declared.Summary.{Summary}
 
@@ -31,9 +32,16 @@ tablesRefusal s =
     orElse 13 unless timesAllowed s
     orElse 14 unless realTestAllowed s
 
--- the fault of the chain from the offset o on, read with the kind and width of the root f
+-- how the changes of a facility with these facts are read, and those of the root f
+abbrev pub signalBy : List ℕ → Facts → Signal
+signalBy s facts = record { from = changesFrom s; end = endOf s; kind = facts .kind; width = facts .width }
+
+abbrev pub signalOf : List ℕ → ℕ → Signal
+signalOf s f = signalBy s (ownFacts s f)
+
+-- the fault of the chain from the offset o on, read as one of the root f
 unfoldable pub faultFrom : List ℕ → ℕ → ℕ → ℕ
-faultFrom s f o = chainFault s (changesFrom s) (endOf s) (ownFacts s f .kind) (ownFacts s f .width) o
+faultFrom s f o = chainFault s (signalOf s f) o
 
 -- "15 and 16: facilities that are roots in order, newest change first; the first fault gives the number."
 unfoldable pub chainsRefusal : List ℕ → ℕ
@@ -49,7 +57,7 @@ allChanges s = joined (changesOf s) (rootsOf s)
 
 -- the offset after the last byte of a change
 unfoldable pub endAt : List ℕ → Pair → ℕ
-endAt s p = changeEnd s (endOf s) (ownFacts s (p .number) .kind) (ownFacts s (p .number) .width) (p .offset)
+endAt s p = changeEnd s (signalOf s (p .number)) (p .offset)
 
 -- two changes share no byte
 unfoldable pub apart : (Pair → ℕ) → Pair → Pair → Bool

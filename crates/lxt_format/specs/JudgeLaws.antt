@@ -8,6 +8,7 @@ use lib.Dec.{lit<}
 use native.Mathlib.Omega.{arith}
 use native.Mathlib.Decide.{ℕ-discrete}
 use borrow.Author.Tests.{leb-true, not-true}
+use Rattle.lxt_format.specs.Limits.{shortestFile, longestFile, mostFacilities}
 use Rattle.lxt_format.specs.Basics.{range, select, firstFault}
 use Rattle.lxt_format.specs.BasicsLaws.{on-test, and-both, kept, neither}
 use Rattle.lxt_format.specs.Sections.{lengthAllowed, startsRight, endsRight, listingOf, nothingCompressed, present, sectionsPresent, bodiesInside, countAllowed, facilityCount, changesFrom, endOf}
@@ -18,7 +19,7 @@ use Rattle.lxt_format.specs.Times.{timesAllowed}
 use Rattle.lxt_format.specs.Reals.{realTestAllowed}
 use Rattle.lxt_format.specs.Changes.{previousOf, chainFault}
 use Rattle.lxt_format.specs.ChangesLaws.{Sound, sound, chain-more}
-use Rattle.lxt_format.specs.Judge.{tablesRefusal, faultFrom, chainsRefusal, changesApart, fileRefusal}
+use Rattle.lxt_format.specs.Judge.{tablesRefusal, signalOf, faultFrom, chainsRefusal, changesApart, fileRefusal}
 
 -- what a file keeps that refusals 1 to 14 pass
 pub record Passed (s : List ℕ) : Type 0 where
@@ -70,14 +71,14 @@ passed s h =
       real-test = kept 14 _ (lit< tt) (c13 .1);
     }
 
-pub passed-length : (s : List ℕ) → Passed s → (6 ≤ length s) × (length s ≤ 16777216)
+pub passed-length : (s : List ℕ) → Passed s → (shortestFile ≤ length s) × (length s ≤ longestFile)
 unfolding lengthAllowed
 passed-length s p = let b = and-both _ _ (p .length′) in (leb-true _ _ (b .0), leb-true _ _ (b .1))
 
 pub passed-located : (s : List ℕ) → Passed s → Located s
 passed-located s p = located s (passed-length s p .0) (p .listed) (p .there) (p .bodies)
 
-pub passed-count : (s : List ℕ) → Passed s → facilityCount s ≤ 4096
+pub passed-count : (s : List ℕ) → Passed s → facilityCount s ≤ mostFacilities
 unfolding countAllowed
 passed-count s p = leb-true _ _ (p .count)
 
@@ -116,6 +117,6 @@ root-sound s h f l e =
 
 -- the newest change of a chain without a fault has none, and neither have the changes before it
 pub newest-sound : (s : List ℕ) (f o : ℕ) → 0 < o → faultFrom s f o ≡ 0
-    → Sound s (changesFrom s) (endOf s) (ownFacts s f .kind) (ownFacts s f .width) o × (faultFrom s f (previousOf s o) ≡ 0)
+    → Sound s (signalOf s f) o × (faultFrom s f (previousOf s o) ≡ 0)
 unfolding faultFrom chainFault firstFault
-newest-sound s f o h e = let b = neither _ _ (rw (chain-more s o h) at e) in (sound s _ _ _ _ o (b .0), b .1)
+newest-sound s f o h e = let b = neither _ _ (rw (chain-more s o h) at e) in (sound s _ o (b .0), b .1)

@@ -26,8 +26,8 @@ namesIn (suc n) bs before =
     let rest : List ℕ = drop 2 bs in
     let suffix : ℕ = toZero rest in
     let name : List ℕ = take prefix before ++ take suffix rest in
-    let more : Option (List (List ℕ)) = named name (namesIn n (drop (suc suffix) rest) name) in
-    if leb 2 (length bs) && (leb prefix (length before) && (ltb suffix (length rest) && leb (length name) longestName)) then more
+    if leb 2 (length bs) && (leb prefix (length before) && (ltb suffix (length rest) && leb (length name) longestName))
+    then named name (namesIn n (drop (suc suffix) rest) name)
     else none
 
 -- "The sum of all lengths, each plus one, is at most M."

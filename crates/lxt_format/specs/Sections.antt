@@ -44,11 +44,10 @@ unlisted = record { listed = false; items = []; end = 0 }
 unfoldable pub listFrom : ℕ → List ℕ → ℕ → List Item → Listing
 listFrom zero s p met = unlisted
 listFrom (suc k) s p met =
-    let next : Listing = listFrom k s (p - 5) (record { tag = byteAt s p; value = u32At s (p - 4) } ∷ met) in
     if ltb p 4 then unlisted
     else if eqb (byteAt s p) 0 then record { listed = true; items = met; end = p }
     else if ltb (p - 4) 4 then unlisted
-    else next
+    else listFrom k s (p - 5) (record { tag = byteAt s p; value = u32At s (p - 4) } ∷ met)
 
 unfoldable pub listingOf : List ℕ → Listing
 listingOf s = listFrom (length s) s (length s - 2) []

@@ -8,6 +8,7 @@ use lib.Dec.{ltb, eqb}
 use native.Mathlib.Omega.{arith}
 use native.Mathlib.Decide.{decLe}
 use borrow.Author.Tests.{eq-eqb, ne-eqb, lt-ltb, le-ltb, leb-true}
+use Rattle.lxt_format.specs.Limits.{shortestFile}
 use Rattle.lxt_format.specs.Basics.{range, all}
 use Rattle.lxt_format.specs.BasicsLaws.{and-both, all-range, or-either, on-test}
 use Rattle.lxt_format.specs.Bytes.{byteAt, u32At}
@@ -130,7 +131,7 @@ pub record Located (s : List ℕ) : Type 0 where
   pub times-low : 4 ≤ sectionOf s 0x06
   pub times-high : sectionOf s 0x06 + (12 + 8 * timeCount s) ≤ endOf s
 
-pub located : (s : List ℕ) → 6 ≤ length s → listingOf s .listed ≡ true → sectionsPresent s ≡ true → bodiesInside s ≡ true → Located s
+pub located : (s : List ℕ) → shortestFile ≤ length s → listingOf s .listed ≡ true → sectionsPresent s ≡ true → bodiesInside s ≡ true → Located s
 unfolding bodySize
 located s long listed there h =
     let T = end-inside s listed in

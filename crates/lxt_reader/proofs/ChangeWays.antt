@@ -9,11 +9,10 @@ use native.Mathlib.Omega.{arith}
 use borrow.Author.Tests.{eq-eqb, ne-eqb, eqb-false}
 use Rattle.lxt_format.specs.Basics.{given, refused, any}
 use Rattle.lxt_format.specs.BasicsLaws.{stops, answer-given, answer-refused}
-use Rattle.lxt_format.specs.Sections.{changesFrom, endOf}
 use Rattle.lxt_format.specs.Geometry.{rootOf, syncOf, ownFacts, factsOf}
 use Rattle.lxt_format.specs.Changes.{dataAt, previousOf, changeEnd, chainOf, chainFault}
 use Rattle.lxt_format.specs.ChangesLaws.{previous-lt, chain-none, chain-more, sound}
-use Rattle.lxt_format.specs.Judge.{faultFrom}
+use Rattle.lxt_format.specs.Judge.{signalBy, faultFrom}
 use Rattle.lxt_format.specs.JudgeLaws.{accepted, root-sound}
 use Rattle.lxt_format.specs.Questions.{facilityRefusal, changeRefusal, chainAsked, beforeAsked}
 use Rattle.lxt_format.specs.declared.Facts.{Facts}
@@ -121,7 +120,7 @@ module _ (s : List ℕ) (f o : ℕ) (c : Chain) (w : Chained s f c) where
     unfolding faultFrom
     chain-reads =
         let k = tables-known s (c .tables) (w .tables) (followed .accepted) in
-        chain-readable s (changesFrom s) (endOf s) _ _ (c .start) (followed .fault) (omega (arith, k .end-high, k .end))
+        chain-readable s _ (c .start) (followed .fault) (omega (arith, k .end-high, k .end))
 
     module _ (z : Bool) (ez : z ≡ any (eqb o) (chainOf s (c .start))) where
       on-chain-is : z ≡ any (eqb o) (chainAsked s f)
@@ -145,7 +144,7 @@ module _ (s : List ℕ) (f o : ℕ) (c : Chain) (w : Chained s f c) where
             refusal = h ∙ sym (rw (fine, ← on-chain-is, q));
             tables = w .tables;
             followed = λ k. followed;
-            sound = λ k. rw (followed .facts) (change-sound s (changesFrom s) (endOf s) _ _ (c .start) (followed .fault) o (sym ez ∙ q));
+            sound = λ k. rw (followed .facts) (change-sound s _ (c .start) (followed .fault) o (sym ez ∙ q));
           }
 
 -- ---- the change before
@@ -165,7 +164,7 @@ module _ (s : List ℕ) (f o : ℕ) (c : Chain) (w : Looked s f o c) where
         let g = w .sound h in
         let b = g .before in
         let e = g .ends in
-        let d : dataAt s o ≤ changeEnd s (endOf s) (c .facts .kind) (c .facts .width) o = (unfold changeEnd in omega arith) in
+        let d : dataAt s o ≤ changeEnd s (signalBy s (c .facts)) o = (unfold changeEnd in omega arith) in
         (omega (arith, k .end-high, k .end), omega (arith, k .end-high, k .end))
 
     pub before-small : (p : ℕ) → p ≡ previousOf s o → p < 4294967296

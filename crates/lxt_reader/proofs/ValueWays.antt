@@ -11,7 +11,7 @@ use borrow.Author.Tests.{ne-eqb, le-leb, lt-leb, leb-true, ltb-true, eqb-false}
 use Rattle.lxt_format.specs.Basics.{_unless_, Answer, given, refused, range, any, select}
 use Rattle.lxt_format.specs.BasicsLaws.{on-test, and-both, neither, kept, stops}
 use Rattle.lxt_format.specs.Bytes.{byteAt}
-use Rattle.lxt_format.specs.Sections.{sectionOf, present, facilityCount, changesFrom, endOf, initialOf}
+use Rattle.lxt_format.specs.Sections.{sectionOf, present, facilityCount, initialOf}
 use Rattle.lxt_format.specs.Geometry.{isAlias, rootOf, rootsOf, ownFacts, factsOf}
 use Rattle.lxt_format.specs.Times.{timeOf}
 use Rattle.lxt_format.specs.Reals.{byteOrder, isReal, hasReal}
@@ -21,7 +21,7 @@ use Rattle.lxt_format.specs.ChangesLaws.{Sound}
 use Rattle.lxt_format.specs.Values.{Content, bits, symbolOf, contentBy, contentOf, latestAt, changeAt, initialBy, contentAt}
 use Rattle.lxt_format.specs.Answers.{Shown, bitsOf, nothing, shown, timedSays}
 use Rattle.lxt_format.specs.Questions.{written, holdingBits, facilityRefusal, changeRefusal, readingRefusal, changeAsked, changeBuffer, valueRefusal, valueAsked, valueBuffer, chainAsked}
-use Rattle.lxt_format.specs.Judge.{fileRefusal, faultFrom}
+use Rattle.lxt_format.specs.Judge.{signalBy, fileRefusal, faultFrom}
 use Rattle.lxt_format.specs.declared.TimedValue.{TimedValue}
 use Rattle.lxt_format.specs.declared.Kind.{Kind}
 use Rattle.lxt_format.specs.declared.Kind.the-variants.{Bits, Integer, Real, Text}
@@ -120,9 +120,9 @@ module _ (s : List ℕ) (f : ℕ) (c : Chain) (e : c .tables ≡ tablesOf s) (fi
   unfolding faultFrom
   chain-there =
       let k = tables-are in
-      chain-readable s (changesFrom s) (endOf s) _ _ (c .start) (l .fault) (omega (arith, k .end-high, k .end))
+      chain-readable s _ (c .start) (l .fault) (omega (arith, k .end-high, k .end))
 
-  pub readies : (o room : ℕ) → Sound s (changesFrom s) (endOf s) (c .facts .kind) (c .facts .width) o → c .facts .width ≤ room
+  pub readies : (o room : ℕ) → Sound s (signalBy s (c .facts)) o → c .facts .width ≤ room
       → Readies s (c .tables .end) (c .tables .order) (c .facts .kind) (c .facts .width) o room
   unfolding factsOf
   readies o room sound enough =
@@ -237,11 +237,11 @@ module _ (s : List ℕ) (f t : ℕ) (buffer : List ℕ) (c : Chain) (w : Chained
             value-is (startContent (c .facts .kind) (c .facts .width) (c .tables .initial)) (a ∙ b) v after ev ea
 
         module _ (some : o ≡ 0 → ⊥) where
-          latest-fine : Sound s (changesFrom s) (endOf s) (c .facts .kind) (c .facts .width) o
+          latest-fine : Sound s (signalBy s (c .facts)) o
           unfolding faultFrom factsOf
           latest-fine =
               rw (eo, w .followed h .facts)
-              (latest-change-sound s (changesFrom s) (endOf s) _ _ (c .start) (w .followed h .fault) t (λ z. some (eo ∙ z)))
+              (latest-change-sound s _ (c .start) (w .followed h .fault) t (λ z. some (eo ∙ z)))
 
           pub value-readies : Readies s (c .tables .end) (c .tables .order) (c .facts .kind) (c .facts .width) o (length buffer)
           value-readies = readies s f c (w .tables) asked-fine (w .followed h) o (length buffer) latest-fine room

@@ -3,10 +3,9 @@ use Prim.Native.Nat.{ℕ, _+_, _≤_, _<_}
 use mathlib.Core.Path.{_≡_}
 use mathlib.Core.List.{List}
 use lib.ListN.{length}
-use Rattle.lxt_format.specs.Sections.{changesFrom, endOf}
 use Rattle.lxt_format.specs.Geometry.{rootOf, syncOf, factsOf}
 use Rattle.lxt_format.specs.ChangesLaws.{Sound}
-use Rattle.lxt_format.specs.Judge.{fileRefusal, faultFrom}
+use Rattle.lxt_format.specs.Judge.{signalBy, fileRefusal, faultFrom}
 use Rattle.lxt_format.specs.Questions.{facilityRefusal, changeRefusal, chainAsked}
 use Rattle.lxt_tables.specs.Stage.{tablesOf}
 use Rattle.lxt_reader.specs.declared.changes.Chain.{Chain}
@@ -29,4 +28,4 @@ pub record Looked (s : List ℕ) (f o : ℕ) (c : Chain) : Type 0 where
   pub refusal : c .refusal ≡ changeRefusal s f o
   pub tables : c .tables ≡ tablesOf s
   pub followed : c .refusal ≡ 0 → Followed s f c
-  pub sound : c .refusal ≡ 0 → Sound s (changesFrom s) (endOf s) (c .facts .kind) (c .facts .width) o
+  pub sound : c .refusal ≡ 0 → Sound s (signalBy s (c .facts)) o

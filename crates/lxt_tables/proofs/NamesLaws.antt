@@ -13,6 +13,7 @@ use native.Mathlib.Nat.{lt-of-not-le, add-zero}
 use native.Mathlib.Numerals.{add-one}
 use borrow.Author.Tests.{eq-eqb, ne-eqb, lt-ltb, le-ltb, le-leb, lt-leb, leb-true, ltb-true}
 use Rattle.lxt_format.specs.Limits.{longestName}
+use Rattle.lxt_format.specs.Limits.{longestName}
 use Rattle.lxt_format.specs.BasicsLaws.{and-both}
 use Rattle.lxt_format.specs.Bytes.{u16At, toZero}
 use Rattle.lxt_format.specs.BytesLaws.{u16-bytes}
@@ -80,9 +81,9 @@ by-lengths (suc n) bs before m =
           | yes c ↦ (
               let zl : z ≤ length rest = omega arith in
               let len : length name ≡ k + z = simp (length-append, length-take-le k before b, length-take-le z rest zl) in
-              elim (decLe (k + z) 1023) [
-                | no d ↦ (let f = lt-of-not-le d in let g : 1023 < length name = omega arith in simp (le-leb _ _ a, le-leb _ _ b, le-leb _ _ c, lt-leb _ _ f, lt-leb _ _ g))
-                | yes d ↦ (let g : length name ≤ 1023 = omega arith in
+              elim (decLe (k + z) longestName) [
+                | no d ↦ (let f = lt-of-not-le d in let g : longestName < length name = omega arith in simp (le-leb _ _ a, le-leb _ _ b, le-leb _ _ c, lt-leb _ _ f, lt-leb _ _ g))
+                | yes d ↦ (let g : length name ≤ longestName = omega arith in
                     simp (le-leb _ _ a, le-leb _ _ b, le-leb _ _ c, le-leb _ _ d, le-leb _ _ g)
                     (rw (← len) (ap (λ (x : Bool). leb (length name + 1) m && x) ih ∙ one-more m name (namesIn n (drop (suc z) rest) name))))
               ]
@@ -118,7 +119,7 @@ module _ (s : List ℕ) (T : ℕ) (t : T ≤ length s) where
   opened : (n p l m : ℕ) → 0 < n → p + 2 ≤ T → namesLeft n (slice p T s) l m
       ≡ (let k : ℕ = u16At s p in
       let y : ℕ = toZero (slice (p + 2) T s) in
-      leb k l && (ltb y (T - (p + 2)) && (leb (k + y) 1023 && (leb (k + y + 1) m && namesLeft (n - 1) (slice (p + 2 + suc y) T s) (k + y) (m - (k + y + 1))))))
+      leb k l && (ltb y (T - (p + 2)) && (leb (k + y) longestName && (leb (k + y + 1) m && namesLeft (n - 1) (slice (p + 2 + suc y) T s) (k + y) (m - (k + y + 1))))))
   unfolding namesLeft
   opened zero p l m h room = absurd (omega arith)
   opened (suc n) p l m h room =
@@ -150,7 +151,7 @@ module _ (s : List ℕ) (T : ℕ) (t : T ≤ length s) where
           let ek : u16At s p ≡ v = sym ev in
           let ey : toZero (slice (p + 2) T s) ≡ z - (p + 2) = omega arith in
           let e1 : p + 2 + suc (z - (p + 2)) ≡ z + 1 = omega arith in
-          let el : leb (v + (z - (p + 2))) 1023 ≡ b = sym eb in
+          let el : leb (v + (z - (p + 2))) longestName ≡ b = sym eb in
           (simp (ek, ey, e1, shifted z T (p + 2) (omega arith), el) at (opened n p l m pos (omega arith)))
           ∙ four-and (leb v l) (ltb z T) b (leb (size + 1) m) (namesLeft (n - 1) (slice (z + 1) T s) size (m - (size + 1)))
 
@@ -158,7 +159,7 @@ module _ (s : List ℕ) (T : ℕ) (t : T ≤ length s) where
       broken h = sym (rw h at tested) ∙ inv
 
       module _ (h : tests ≡ true) where
-        kept : (v ≤ l) × ((z < T) × ((size ≤ 1023) × (size + 1 ≤ m)))
+        kept : (v ≤ l) × ((z < T) × ((size ≤ longestName) × (size + 1 ≤ m)))
         kept =
             let q = and-both (leb v l) (ltb z T && (b && leb (size + 1) m)) h in
             let r = and-both (ltb z T) (b && leb (size + 1) m) (q .1) in

@@ -8,6 +8,7 @@ use lib.Dec.{ltb, leb, eqb, lit≤}
 use native.Mathlib.Omega.{arith}
 use native.Mathlib.Decide.{ℕ-discrete}
 use borrow.Author.Tests.{ne-eqb, not-true}
+use Rattle.lxt_format.specs.Limits.{longestFile, mostFacilities}
 use Rattle.lxt_format.specs.Limits.{widestFacility}
 use Rattle.lxt_format.specs.Basics.{if_then_else_, all, any}
 use Rattle.lxt_format.specs.BasicsLaws.{and-both, all-range}
@@ -40,8 +41,8 @@ pub record Known (s : List ℕ) (t : Tables) : Type 0 where
   pub timescale : t .timescale ≡ timescaleOf s
   pub initial : t .initial ≡ initialOf s
   pub order : t .order ≡ (if hasReal s then byteOrder s else replicate 8 0)
-  pub few : t .facilities ≤ 4096
-  pub long : length s ≤ 16777216
+  pub few : t .facilities ≤ mostFacilities
+  pub long : length s ≤ longestFile
   pub end-low : 4 ≤ t .end
   pub end-high : t .end + 2 ≤ length s
   pub changes-low : 4 ≤ t .changes

@@ -12,6 +12,7 @@ use native.Mathlib.Nat.{add-zero}
 use native.Mathlib.Numerals.{add-one}
 use borrow.Author.Tests.{leb-true, ltb-true}
 use Rattle.lxt_format.specs.Limits.{longestName}
+use Rattle.lxt_format.specs.Limits.{longestName}
 use Rattle.lxt_format.specs.Basics.{if_then_else_}
 use Rattle.lxt_format.specs.Bytes.{u16At, toZero}
 use Rattle.lxt_format.specs.BytesLaws.{u16-bytes}
@@ -56,7 +57,7 @@ pub record Step (s : List ℕ) (T n p : ℕ) (before : List ℕ) : Type 0 where
   pub two : p + 2 ≤ T
   pub prefix : u16At s p ≤ length before
   pub ended : p + 2 + suffixAt s T p < T
-  pub small : u16At s p + suffixAt s T p ≤ 1023
+  pub small : u16At s p + suffixAt s T p ≤ longestName
   pub rest : accepted (namesIn (n - 1) (slice (p + 2 + suc (suffixAt s T p)) T s) (nameHere s T p before)) ≡ true
   pub list : namesIn n (slice p T s) before ≡ named (nameHere s T p before) (namesIn (n - 1) (slice (p + 2 + suc (suffixAt s T p)) T s) (nameHere s T p before))
 
@@ -86,7 +87,7 @@ module _ (s : List ℕ) (T : ℕ) (t : T ≤ length s) where
       let zl : z < length rest = ltb-true _ _ (q .2) in
       let zm : z ≤ length rest = omega arith in
       let len : length name ≡ u16At bs 0 + z = simp (length-append, length-take-le (u16At bs 0) before pre, length-take-le z rest zm) in
-      let short : u16At bs 0 + z ≤ 1023 = omega (arith, leb-true (length name) 1023 (q .3)) in
+      let short : u16At bs 0 + z ≤ longestName = omega (arith, leb-true (length name) longestName (q .3)) in
       let dd : drop (suc z) rest ≡ slice (p + 2 + suc z) T s = ap (drop (suc z)) rs ∙ drop-drop (suc z) (p + 2) (take T s) in
       let zs : z ≡ toZero (slice (p + 2) T s) = ap toZero rs in
       let n1 : suc n - 1 ≡ n = omega arith in
@@ -128,7 +129,7 @@ among-others name none j e = absurd (false≢true e)
 among-others name (some names) j e = refl
 
 -- all names of an allowed table are still to come
-pub table-coming : (s : List ℕ) (at T n M : ℕ) (d : List ℕ) → at ≤ T → T ≤ length s → withinMemory M (namesIn n (slice at T s) []) ≡ true → 1023 ≤ length d
+pub table-coming : (s : List ℕ) (at T n M : ℕ) (d : List ℕ) → at ≤ T → T ≤ length s → withinMemory M (namesIn n (slice at T s) []) ≡ true → longestName ≤ length d
     → Coming s T n at 0 d
 table-coming s at T n M d start inside allowed room = record {
   inside = inside;
@@ -145,7 +146,7 @@ module _ (s : List ℕ) (T left p before : ℕ) (d : List ℕ) (h : Coming s T l
   next-prefix : u16At s p ≤ before
   next-prefix = omega (arith, next-here .prefix, length-take before d)
 
-  pub next-bounds : (p + 2 ≤ T) × (u16At s p ≤ before) × (p + 2 + suffixAt s T p < T) × (u16At s p + suffixAt s T p ≤ 1023)
+  pub next-bounds : (p + 2 ≤ T) × (u16At s p ≤ before) × (p + 2 + suffixAt s T p < T) × (u16At s p + suffixAt s T p ≤ longestName)
   next-bounds = (next-here .two, next-prefix, next-here .ended, next-here .small)
 
   pub next-read : (k y : ℕ) (d′ : List ℕ) → k ≡ u16At s p → y ≡ suffixAt s T p → d′ ≡ paste d k (drop (p + 2) s) y
@@ -168,8 +169,8 @@ module _ (s : List ℕ) (T left p before : ℕ) (d : List ℕ) (h : Coming s T l
       rw ed (take-paste d k bytes y k-d in-s ∙ rw (← take-take k before d k-len, ← uncut s T (p + 2) y t in-T, ek, ey)) in
       let after : p + 2 + y + 1 ≡ p + 2 + suc (suffixAt s T p) = omega arith in
       let long : length d′ ≡ length d = rw ed (length-paste d k bytes y in-d in-s) in
-      let j : ℕ = 1023 - (k + y) in
-      let ej : k + y + j ≡ 1023 = omega arith in
+      let j : ℕ = longestName - (k + y) in
+      let ej : k + y + j ≡ longestName = omega arith in
       record {
         rest = record {
           inside = h .inside;
@@ -192,11 +193,11 @@ pub record Held (s : List ℕ) (at T n f : ℕ) (d₀ d : List ℕ) (left p befo
   pub rest : Coming s T left p before d
   pub few : wanted ≤ left
   pub long : length d ≡ length d₀
-  pub tail : drop 1023 d ≡ drop 1023 d₀
+  pub tail : drop longestName d ≡ drop longestName d₀
   pub name : chosen wanted (take before d) (coming s T left p before d) ≡ nameAt s at T n f
 
 -- no name is read yet
-pub none-read : (s : List ℕ) (at T n M f : ℕ) (d : List ℕ) → Named s at T n M f → 1023 ≤ length d → Held s at T n f d d n at 0 (f + 1)
+pub none-read : (s : List ℕ) (at T n M f : ℕ) (d : List ℕ) → Named s at T n M f → longestName ≤ length d → Held s at T n f d d n at 0 (f + 1)
 unfolding nameAt
 none-read s at T n M f d k room =
     let l = k .number in
@@ -238,15 +239,15 @@ module _ (s : List ℕ) (at T n f : ℕ) (d₀ d : List ℕ) (left p before want
         sym (length-take-le before d l) ∙ ap length named-held
 
     -- and the buffer, after the zeros
-    pub name-held : (d′ : List ℕ) → d′ ≡ paste d before (replicate (1023 - before) 0) (1023 - before) → d′ ≡ holdingName (nameAt s at T n f) d₀
+    pub name-held : (d′ : List ℕ) → d′ ≡ paste d before (replicate (longestName - before) 0) (longestName - before) → d′ ≡ holdingName (nameAt s at T n f) d₀
     unfolding holdingName
     name-held d′ e =
-        let k : ℕ = 1023 - before in
+        let k : ℕ = longestName - before in
         let small = h .rest .small in
         let room = h .rest .room in
         let long = h .long in
         let l : before ≤ length d = omega arith in
-        let ek : before + k ≡ 1023 = omega arith in
+        let ek : before + k ≡ longestName = omega arith in
         let all : take k (replicate {A = ℕ} k 0) ≡ replicate k 0 = take-all k (replicate k 0) (omega (arith, length-replicate {A = ℕ} k 0)) in
         e ∙ append-assoc (take before d) (take k (replicate k 0)) (drop (before + k) d) ∙ rw (← named-held, length-take-le before d l, all, ek, h .tail)
 

@@ -6,6 +6,7 @@ use mathlib.Core.List.{List, []}
 use mathlib.Core.Option.{Option, none, some}
 use lib.ListN.{length, take, drop}
 use lib.Seq.{slice}
+use Rattle.lxt_format.specs.Limits.{longestName}
 use Rattle.lxt_format.specs.Sections.{sectionOf, endOf, facilityCount}
 use Rattle.lxt_format.specs.Names.{namesIn, withinMemory, nameAmong, nameTable, nameOf}
 
@@ -40,8 +41,8 @@ coming s T left p before buffer = namesIn left (slice p T s) (take before buffer
 pub record Coming (s : List ℕ) (T left p before : ℕ) (buffer : List ℕ) : Type 0 where
   pub inside : T ≤ length s
   pub inT : p ≤ T
-  pub room : 1023 ≤ length buffer
-  pub small : before ≤ 1023
+  pub room : longestName ≤ length buffer
+  pub small : before ≤ longestName
   pub allowed : accepted (coming s T left p before buffer) ≡ true
 
 -- the first of them is read: the buffer holds it as its first `size` bytes, the others follow, and bytes from 1,023 on stay
@@ -51,4 +52,4 @@ pub record Read (s : List ℕ) (T left p before : ℕ) (buffer : List ℕ) (left
   pub name : take size buffer′ ≡ nameAmong 0 (coming s T left p before buffer)
   pub others : (j : ℕ) → nameAmong j (coming s T left′ p′ size buffer′) ≡ nameAmong (suc j) (coming s T left p before buffer)
   pub same-length : length buffer′ ≡ length buffer
-  pub tail : drop 1023 buffer′ ≡ drop 1023 buffer
+  pub tail : drop longestName buffer′ ≡ drop longestName buffer

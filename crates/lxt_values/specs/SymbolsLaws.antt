@@ -8,7 +8,7 @@ use lib.Dec.{eqb}
 use native.Mathlib.Omega.{arith}
 use borrow.Author.Tests.{leb-true, eqb-true, ne-eqb}
 use Rattle.lxt_format.specs.BasicsLaws.{and-both, or-either}
-use Rattle.lxt_format.specs.Changes.{commandAllowed, codesAllowed, paddingAllowed, symbolsAllowed, dataSize, dataAllowed, changeEnd}
+use Rattle.lxt_format.specs.Changes.{signal, commandAllowed, codesAllowed, paddingAllowed, symbolsAllowed, dataSize, dataAllowed, changeEnd}
 use Rattle.lxt_format.specs.ChangesLaws.{Sound}
 use Rattle.lxt_format.specs.declared.Kind.{Kind}
 use Rattle.lxt_format.specs.declared.Kind.the-variants.{Bits, Integer, Real, Text}
@@ -28,7 +28,7 @@ integer-command c h =
     (λ g. or-either (eqb c 3) (eqb c 4) g (λ e. let q = eqb-true c 3 e in omega arith) (λ e. let q = eqb-true c 4 e in omega arith))
 
 -- a sound change whose kind has symbols
-pub sound-drawn : (s : List ℕ) (C T : ℕ) (kind : Kind) (width o : ℕ) → symbolic kind ≡ true → T ≤ length s → Sound s C T kind width o → Drawn s width o
+pub sound-drawn : (s : List ℕ) (C T : ℕ) (kind : Kind) (width o : ℕ) → symbolic kind ≡ true → T ≤ length s → Sound s (signal C T kind width) o → Drawn s width o
 unfolding symbolic changeEnd dataSize dataAllowed commandAllowed
 sound-drawn s C T Bits width o k t d =
     let a = d .before in

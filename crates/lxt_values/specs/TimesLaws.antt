@@ -11,40 +11,39 @@ use borrow.Author.Tests.{eqb-true}
 use Rattle.lxt_format.specs.Basics.{any, firstFault}
 use Rattle.lxt_format.specs.BasicsLaws.{on-test, or-either, neither}
 use Rattle.lxt_format.specs.Times.{timeOf}
-use Rattle.lxt_format.specs.Changes.{changeEnd, faultAt, chainOf, chainFault}
+use Rattle.lxt_format.specs.Changes.{Signal, changeEnd, faultAt, chainOf, chainFault}
 use Rattle.lxt_format.specs.ChangesLaws.{Sound, sound}
 use Rattle.lxt_format.specs.Values.{latestAt}
-use Rattle.lxt_format.specs.declared.Kind.{Kind}
 use Rattle.lxt_values.specs.Times.{Readable, no-change, change}
 
-module _ (s : List ℕ) (C T : ℕ) (kind : Kind) (width : ℕ) where
+module _ (s : List ℕ) (g : Signal) where
   -- changes without a fault are readable
-  sound-readable : (os : List ℕ) → T ≤ length s → firstFault (map (faultAt s C T kind width) os) ≡ 0 → Readable s os
+  sound-readable : (os : List ℕ) → g .end ≤ length s → firstFault (map (faultAt s g) os) ≡ 0 → Readable s os
   unfolding firstFault changeEnd
   sound-readable [] t h = no-change
   sound-readable (o ∷ os) t h =
-      let both = neither (faultAt s C T kind width o) (firstFault (map (faultAt s C T kind width) os)) h in
-      let k = sound s C T kind width o (both .0) in
+      let both = neither (faultAt s g o) (firstFault (map (faultAt s g) os)) h in
+      let k = sound s g o (both .0) in
       let l = k .before in
       let e = k .ends in
       change {o = o} (omega arith) (omega arith) (sound-readable os t (both .1))
 
   -- each of them has no fault
-  member-sound : (os : List ℕ) (o : ℕ) → firstFault (map (faultAt s C T kind width) os) ≡ 0 → any (eqb o) os ≡ true → faultAt s C T kind width o ≡ 0
+  member-sound : (os : List ℕ) (o : ℕ) → firstFault (map (faultAt s g) os) ≡ 0 → any (eqb o) os ≡ true → faultAt s g o ≡ 0
   unfolding firstFault any
   member-sound [] o h e = absurd (false≢true e)
   member-sound (x ∷ os) o h e =
-      let both = neither (faultAt s C T kind width x) (firstFault (map (faultAt s C T kind width) os)) h in
-      let rest : any (eqb o) os ≡ true → faultAt s C T kind width o ≡ 0 = λ k. member-sound os o (both .1) k in
+      let both = neither (faultAt s g x) (firstFault (map (faultAt s g) os)) h in
+      let rest : any (eqb o) os ≡ true → faultAt s g o ≡ 0 = λ k. member-sound os o (both .1) k in
       or-either (eqb o x) (any (eqb o) os) e (λ q. rw (eqb-true o x q) (both .0)) rest
 
   -- and so has the latest of them
-  latest-sound : (t : ℕ) (os : List ℕ) → firstFault (map (faultAt s C T kind width) os) ≡ 0 → (latestAt s t os ≡ 0 → ⊥) → faultAt s C T kind width (latestAt s t os) ≡ 0
+  latest-sound : (t : ℕ) (os : List ℕ) → firstFault (map (faultAt s g) os) ≡ 0 → (latestAt s t os ≡ 0 → ⊥) → faultAt s g (latestAt s t os) ≡ 0
   unfolding firstFault latestAt
   latest-sound t [] h n = absurd (n refl)
   latest-sound t (o ∷ os) h n =
-      let both = neither (faultAt s C T kind width o) (firstFault (map (faultAt s C T kind width) os)) h in
-      let rest : (latestAt s t os ≡ 0 → ⊥) → faultAt s C T kind width (latestAt s t os) ≡ 0 = λ k. latest-sound t os (both .1) k in
+      let both = neither (faultAt s g o) (firstFault (map (faultAt s g) os)) h in
+      let rest : (latestAt s t os ≡ 0 → ⊥) → faultAt s g (latestAt s t os) ≡ 0 = λ k. latest-sound t os (both .1) k in
       on-test (leb (timeOf s o) t)
       (λ q. elim (decLe o (latestAt s t os)) [
         | yes l ↦ (let e : max o (latestAt s t os) ≡ latestAt s t os = omega arith in
@@ -54,18 +53,18 @@ module _ (s : List ℕ) (C T : ℕ) (kind : Kind) (width : ℕ) where
       ])
       (λ q. rw q (rest (rw q at n)))
 
-  module _ (from : ℕ) (h : chainFault s C T kind width from ≡ 0) where
+  module _ (from : ℕ) (h : chainFault s g from ≡ 0) where
     -- a chain without a fault is readable
-    pub chain-readable : T ≤ length s → Readable s (chainOf s from)
+    pub chain-readable : g .end ≤ length s → Readable s (chainOf s from)
     unfolding chainFault
     chain-readable t = sound-readable (chainOf s from) t h
 
     -- a change on it is sound
-    pub change-sound : (o : ℕ) → any (eqb o) (chainOf s from) ≡ true → Sound s C T kind width o
+    pub change-sound : (o : ℕ) → any (eqb o) (chainOf s from) ≡ true → Sound s g o
     unfolding chainFault
-    change-sound o e = sound s C T kind width o (member-sound (chainOf s from) o h e)
+    change-sound o e = sound s g o (member-sound (chainOf s from) o h e)
 
     -- and so is its latest at a time, where there is one
-    pub latest-change-sound : (t : ℕ) → (latestAt s t (chainOf s from) ≡ 0 → ⊥) → Sound s C T kind width (latestAt s t (chainOf s from))
+    pub latest-change-sound : (t : ℕ) → (latestAt s t (chainOf s from) ≡ 0 → ⊥) → Sound s g (latestAt s t (chainOf s from))
     unfolding chainFault
-    latest-change-sound t n = sound s C T kind width (latestAt s t (chainOf s from)) (latest-sound t (chainOf s from) h n)
+    latest-change-sound t n = sound s g (latestAt s t (chainOf s from)) (latest-sound t (chainOf s from) h n)

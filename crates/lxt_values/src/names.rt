@@ -3,6 +3,7 @@ ghost use mathlib.Core.Path.{_≡_};
 ghost use Prim.Native.Nat.{_+_, _-_, _≤_, _<_};
 ghost use lib.ListN.{length, drop, replicate};
 ghost use lib.Seq.{paste};
+ghost use Rattle.lxt_format.specs.Limits.{longestName};
 ghost use Rattle.lxt_format.specs.Questions.{holdingName};
 ghost use Rattle.lxt_values.specs.Names.{Named, nameAt, Coming, Read};
 use crate::texts;
@@ -69,7 +70,7 @@ pub fn expand(
     f: u32,
     names: &mut [u8],
 ) -> usize
-    requires { ⌜ Named (now file) at end n memory f × (1023 ≤ length (now names)) ⌝ }
+    requires { ⌜ Named (now file) at end n memory f × (longestName ≤ length (now names)) ⌝ }
     ensures { λ r. ⌜ (r ≡ length (nameAt (now (file .entry)) at end n f)) × (now (names .exit) ≡ holdingName (nameAt (now (file .entry)) at end n f) (now (names .entry))) ⌝ }
 {
     let mut c = NamesLeft {

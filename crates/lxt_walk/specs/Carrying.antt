@@ -3,6 +3,7 @@ use Prim.Native.Nat.{ℕ, _≤_, _<_}
 use mathlib.Core.Path.{_≡_}
 use mathlib.Core.List.{List}
 use lib.ListN.{length, getD, take}
+use Rattle.lxt_format.specs.Limits.{longestFile, mostFacilities}
 use Rattle.lxt_format.specs.Sections.{facilityCount, endOf}
 use Rattle.lxt_format.specs.Judge.{fileRefusal}
 use Rattle.lxt_format.specs.Walk.{sort}
@@ -23,9 +24,9 @@ pub record Starting (s : List ℕ) (t : Tables) (asked offsets : List ℕ) : Typ
 
 -- a file whose tables have passed, and a pending offset for each facility, from which on every change is allowed
 pub record Walkable (s offsets : List ℕ) : Type 0 where
-  pub small : length s ≤ 16777216
+  pub small : length s ≤ longestFile
   pub inside : endOf s ≤ length s
-  pub few : facilityCount s ≤ 4096
+  pub few : facilityCount s ≤ mostFacilities
   pub wide : facilityCount s ≤ length offsets
   pub each : Each (Allowed s) (sort (pendingChanges s 0 (take (facilityCount s) offsets)))
 
