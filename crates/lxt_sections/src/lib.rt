@@ -12,6 +12,8 @@ use lxt_format::File;
 use lxt_format::SectionCursor;
 use lxt_format::Summary;
 
+pub mod times;
+
 pub fn wide(x: u8) -> u32
     ensures { λ r. ⌜ (r ≡ x) × (r < 256) ⌝ }
 {

@@ -109,15 +109,16 @@ gathered true true p true t = refl
 gathered true false p true t = refl
 
 module _ (s : List ℕ) (times m end : ℕ) (p : Times s times m end) where
-  pub table-is : 0 < m → (x : ℕ) → x ≡ u32At s (times + 4) → (y : ℕ) → y ≡ u32At s (times + 8) → (a : Bool) → a ≡ sumsKept 4 (end - 1) (u32sAt m s (times + 12))
-      → (b : Bool) → b ≡ sumsKept x y (u32sAt m s (times + 12 + 4 * m)) → (a && b) ≡ tableAllowed s
+  pub table-is : 0 < m → (x : ℕ) → x ≡ u32At s (times + 4) → (y : ℕ) → y ≡ u32At s (times + 8) → (at : ℕ) → at ≡ times + 12
+      → (a : Bool) → a ≡ sumsKept 4 (end - 1) (u32sAt m s at) → (steps : ℕ) → steps ≡ times + 12 + 4 * m
+      → (b : Bool) → b ≡ sumsKept x y (u32sAt m s steps) → (a && b) ≡ tableAllowed s
   unfolding tableAllowed positionsOf timesOf positionDeltas timeDeltas firstTime lastTime
-  table-is more x ex y ey a ea b eb =
+  table-is more x ex y ey at eat a ea steps est b eb =
       let ds : List ℕ = u32sAt m s (times + 12) in
       let es : List ℕ = u32sAt m s (times + 12 + 4 * m) in
       let low : 0 < end = omega (arith, p .low) in
       let kept = positions-kept end ds low (rw (length-u32s m s (times + 12)) more) in
-      rw (ea, eb, kept, ex, ey)
+      rw (ea, eb, eat, est, kept, ex, ey)
       (gathered (all (leb 1) (drop 1 ds)) (leb 4 (getD (sumsFrom 0 ds) 0 0)) (all (λ p. ltb p end) (sumsFrom 0 ds)) (all (leb 1) (drop 1 es))
       (all (λ t. leb (u32At s (times + 4)) t && leb t (u32At s (times + 8))) (sumsFrom 0 es))
       ∙ rw (p .start, p .count, p .limit))

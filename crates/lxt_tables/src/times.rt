@@ -14,6 +14,8 @@ use crate::geometry::is_alias;
 use crate::geometry::sync_of;
 use lxt_sections::Sections;
 use lxt_sections::be32;
+use lxt_sections::times::positions_at;
+use lxt_sections::times::steps_at;
 
 // The `m` deltas from `at` on: each after the first is at least 1, and each of their running sums is
 // from `low` to `high`. The first sum above `high` ends the loop, so that none wraps.
@@ -45,11 +47,10 @@ fn table_allowed(file: &[u8], times: usize, m: u32, end: usize) -> bool
     requires { ⌜ Times (now file) times m end × (0 < m) ⌝ }
     ensures { λ r. ⌜ r ≡ tableAllowed (now (file .entry)) ⌝ }
 {
-    let positions = times + 12;
     let first = be32(file, times + 4) as u64;
     let last = be32(file, times + 8) as u64;
-    sums_allowed(file, positions, m, 4, (end - 1) as u64)
-        & sums_allowed(file, positions + 4 * (m as usize), m, first, last)
+    sums_allowed(file, positions_at(times), m, 4, (end - 1) as u64)
+        & sums_allowed(file, steps_at(times, m), m, first, last)
 }
 
 // A root's sync entry is not 0.

@@ -93,18 +93,16 @@ module _ (s : List ℕ) (times m : ℕ) (k : Times s times m) where
     time-delta = getD-u32s (timeCount s) s (sectionOf s 0x06 + 12 + 4 * timeCount s) i 0 h ∙ rw (k .start, k .count)
 
   -- entry 0
-  pub entry-first : 0 < m → (p t : ℕ) → p ≡ u32At s (times + 12) → t ≡ u32At s (times + 12 + 4 * m) → EntryAt s 0 p t
+  pub entry-first : 0 < m → (p t : ℕ) → p ≡ u32At s (times + 12 + 4 * 0) → t ≡ u32At s (times + 12 + 4 * m + 4 * 0) → EntryAt s 0 p t
   unfolding positionsOf timesOf
   entry-first h p t ep et =
       let c = k .count in
       let lp : length (positionDeltas s) ≡ timeCount s = (unfold positionDeltas in length-u32s (timeCount s) s (sectionOf s 0x06 + 12)) in
       let lt : length (timeDeltas s) ≡ timeCount s = (unfold timeDeltas in length-u32s (timeCount s) s (sectionOf s 0x06 + 12 + 4 * timeCount s)) in
-      let a : times + 12 + 4 * 0 ≡ times + 12 = omega arith in
-      let b : times + 12 + 4 * m + 4 * 0 ≡ times + 12 + 4 * m = omega arith in
       record {
         within = omega arith;
-        position-is = omega (arith, ep, sum-first 0 (positionDeltas s) (omega arith), position-delta 0 (omega arith), ap (u32At s) a);
-        time-is = omega (arith, et, sum-first 0 (timeDeltas s) (omega arith), time-delta 0 (omega arith), ap (u32At s) b);
+        position-is = omega (arith, ep, sum-first 0 (positionDeltas s) (omega arith), position-delta 0 (omega arith));
+        time-is = omega (arith, et, sum-first 0 (timeDeltas s) (omega arith), time-delta 0 (omega arith));
       }
 
   -- the sums of two entries that follow each other
@@ -125,7 +123,7 @@ module _ (s : List ℕ) (times m : ℕ) (k : Times s times m) where
 
   -- ---- up to the last entry
 
-  pub summed-begun : 0 < m → (p t : ℕ) → p ≡ u32At s (times + 12) → t ≡ u32At s (times + 12 + 4 * m) → p < 4294967296 → t < 4294967296 → Summed s 0 p t
+  pub summed-begun : 0 < m → (p t : ℕ) → p ≡ u32At s (times + 12 + 4 * 0) → t ≡ u32At s (times + 12 + 4 * m + 4 * 0) → p < 4294967296 → t < 4294967296 → Summed s 0 p t
   summed-begun h p t ep et a b = record { here = entry-first h p t ep et; positions = omega arith; times-most = omega arith }
 
   module _ (number position time : ℕ) (w : Summed s number position time) where

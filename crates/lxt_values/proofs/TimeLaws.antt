@@ -136,11 +136,10 @@ module _ (s : List ℕ) (times m : ℕ) (k : Times s times m) where
       rw (drop-of-length-le (positionDeltas s) l)
 
   -- before the first the time is that of entry 0
-  pub first-entry : (o t : ℕ) → 0 < m → t ≡ u32At s (times + 12 + 4 * m) → timeLeft s 0 0 0 t o ≡ timeOf s o
+  pub first-entry : (o t : ℕ) → 0 < m → t ≡ u32At s (times + 12 + 4 * m + 4 * 0) → timeLeft s 0 0 0 t o ≡ timeOf s o
   unfolding timeOf timesOf positionsOf
   first-entry o t h e =
-      let z : times + 12 + 4 * m ≡ times + 12 + 4 * m + 4 * 0 = omega arith in
-      let a : timeDeltas s ≡ t ∷ drop 1 (timeDeltas s) = time-next 0 h t (e ∙ ap (u32At s) z) in
+      let a : timeDeltas s ≡ t ∷ drop 1 (timeDeltas s) = time-next 0 h t e in
       ap (λ x. timeFrom x (sumsFrom 0 (positionDeltas s)) (sumsFrom 0 (timeDeltas s)) o) (first-sum t (timeDeltas s) (drop 1 (timeDeltas s)) a)
 
 -- ---- the pass that finds a time
@@ -169,7 +168,7 @@ pub record Timing (s : List ℕ) (m o i position time found : ℕ) : Type 0 wher
 
 module _ (s : List ℕ) (times m : ℕ) (k : Times s times m) (o : ℕ) where
   -- no entry is passed yet
-  pub timing-begun : 0 < m → (t : ℕ) → t ≡ u32At s (times + 12 + 4 * m) → Timing s m o 0 0 0 t
+  pub timing-begun : 0 < m → (t : ℕ) → t ≡ u32At s (times + 12 + 4 * m + 4 * 0) → Timing s m o 0 0 0 t
   timing-begun h t e = record { sums = no-sums m; left = first-entry s times m k o t h e }
 
   module _ (i position time found : ℕ) (w : Timing s m o i position time found) where
@@ -212,16 +211,15 @@ module _ (s : List ℕ) (times m : ℕ) (k : Times s times m) (t : ℕ) where
   pub no-table : m ≡ 0 → Limit s t (length s)
   no-table e = record { below = λ o h. rw (← no-entry s times m k e o) (le-leb 0 t (omega arith) ∙ sym (lt-ltb o (length s) h)) }
 
-  module _ (h : (m ≡ 0) → ⊥) (x : ℕ) (ex : x ≡ u32At s (times + 12 + 4 * m)) where
+  module _ (h : (m ≡ 0) → ⊥) (x : ℕ) (ex : x ≡ u32At s (times + 12 + 4 * m + 4 * 0)) where
     -- entry 0 is later: so is every change
     pub first-later : t < x → Limit s t 0
     first-later l = record { below = λ o g. lt-leb (timeOf s o) t (later o) ∙ sym (le-ltb o 0 (omega arith)) }
       where
         later : (o : ℕ) → t < timeOf s o
         later o =
-            let z : times + 12 + 4 * m ≡ times + 12 + 4 * m + 4 * 0 = omega arith in
             let p : ℕ = u32At s (times + 12 + 4 * 0) in
-            let c = entry s times m k 0 (omega arith) o 0 0 x p x refl (ex ∙ ap (u32At s) z) in
+            let c = entry s times m k 0 (omega arith) o 0 0 x p x refl ex in
             let y : ℕ = if leb (0 + p) o then 0 + x else x in
             let g : t < y = on-test (leb (0 + p) o) (λ q. rw q (omega arith)) (λ q. rw q l) in
             let b : t < 0 + x = omega arith in

@@ -4,7 +4,7 @@ ghost use Prim.Native.Nat.{_+_, _<_};
 ghost use Rattle.lxt_format.specs.Times.{timeOf};
 ghost use Rattle.lxt_values.specs.Times.{Times};
 ghost use Rattle.lxt_values.specs.Entries.{EntryAt, Latest};
-use lxt_sections::be32;
+use lxt_sections::times::deltas_of;
 
 // An entry by its number, with its position and its time.
 pub struct Entry {
@@ -19,15 +19,15 @@ pub fn last(file: &[u8], times: usize, m: u32) -> Entry
     ensures { λ r. ⌜ EntryAt (now (file .entry)) (r .number) (r .position) (r .time) × (r .number + 1 ≡ m) ⌝ }
 {
     let count = m as usize;
-    let positions = times + 12;
-    let steps = positions + 4 * count;
-    let mut position = be32(file, positions) as u64;
-    let mut time = be32(file, steps) as u64;
+    let first = deltas_of(file, times, m, 0);
+    let mut position = first.position as u64;
+    let mut time = first.time as u64;
     let mut number: usize = 0;
     while number + 1 < count {
         number += 1;
-        position += be32(file, positions + 4 * number) as u64;
-        time += be32(file, steps + 4 * number) as u64;
+        let d = deltas_of(file, times, m, number);
+        position += d.position as u64;
+        time += d.time as u64;
     }
     Entry {
         number,
@@ -42,8 +42,6 @@ pub fn down(file: &[u8], times: usize, m: u32, e: Entry, o: usize) -> Entry
     requires { ⌜ Times (now file) times m × Latest (now file) o (e .number) (e .position) (e .time) ⌝ }
     ensures { λ r. ⌜ Latest (now (file .entry)) o (r .number) (r .position) (r .time) × (r .time ≡ timeOf (now (file .entry)) o) ⌝ }
 {
-    let positions = times + 12;
-    let steps = positions + 4 * (m as usize);
     let mut number = e.number;
     let mut position = e.position;
     let mut time = e.time;
@@ -55,8 +53,9 @@ pub fn down(file: &[u8], times: usize, m: u32, e: Entry, o: usize) -> Entry
                 time,
             };
         }
-        position -= be32(file, positions + 4 * number) as u64;
-        time -= be32(file, steps + 4 * number) as u64;
+        let d = deltas_of(file, times, m, number);
+        position -= d.position as u64;
+        time -= d.time as u64;
         number -= 1;
     }
     Entry {

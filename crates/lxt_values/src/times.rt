@@ -5,7 +5,7 @@ ghost use Rattle.lxt_format.specs.Changes.{chainOf};
 ghost use Rattle.lxt_format.specs.Values.{latestAt};
 ghost use Rattle.lxt_values.specs.Times.{Times, Limit, Readable};
 use lxt_changes::delta;
-use lxt_sections::be32;
+use lxt_sections::times::deltas_of;
 
 // The time of a change at `o`, by one pass over the time table of `m` entries; 0 where it is empty.
 pub fn time_of(file: &[u8], times: usize, m: u32, o: usize) -> u32
@@ -16,15 +16,15 @@ pub fn time_of(file: &[u8], times: usize, m: u32, o: usize) -> u32
     if count == 0 {
         return 0;
     }
-    let positions = times + 12;
-    let steps = positions + 4 * count;
-    let mut found = be32(file, steps) as u64;
+    let first = deltas_of(file, times, m, 0);
+    let mut found = first.time as u64;
     let mut position: u64 = 0;
     let mut time: u64 = 0;
     let mut i: usize = 0;
     while i < count {
-        position += be32(file, positions + 4 * i) as u64;
-        time += be32(file, steps + 4 * i) as u64;
+        let d = deltas_of(file, times, m, i);
+        position += d.position as u64;
+        time += d.time as u64;
         i += 1;
         if position <= o as u64 {
             found = time;
@@ -44,17 +44,17 @@ fn limit(file: &[u8], times: usize, m: u32, t: u32) -> usize
     if count == 0 {
         return file.len();
     }
-    let positions = times + 12;
-    let steps = positions + 4 * count;
-    if t < be32(file, steps) {
+    let first = deltas_of(file, times, m, 0);
+    if t < first.time {
         return 0;
     }
     let mut position: usize = 0;
     let mut time: u64 = 0;
     let mut i: usize = 0;
     while i < count {
-        position += be32(file, positions + 4 * i) as usize;
-        time += be32(file, steps + 4 * i) as u64;
+        let d = deltas_of(file, times, m, i);
+        position += d.position as usize;
+        time += d.time as u64;
         if (t as u64) < time {
             return position;
         }

@@ -5,28 +5,16 @@ use Rattle.lxt_values.proofs.entries.last.Statement.{statement}
 use Rattle.lxt_values.proofs.entries.last.Tie as tie
 
 abbrev Inv-loop : tie.InvT-loop
-Inv-loop file times m count positions steps position₀ time₀ number₀ position time number = Summed file number position time
+Inv-loop file times m count position₀ time₀ number₀ position time number = Summed file number position time
 
 abbrev μ-loop : tie.MeasureT-loop
-μ-loop file times m count positions steps position₀ time₀ number₀ position time number = m - number
+μ-loop file times m count position₀ time₀ number₀ position time number = m - number
 
-add-positions : tie.Need-add-positions Inv-loop μ-loop
-add-positions c = search needs
-
-mul-steps : tie.Need-mul-steps Inv-loop μ-loop
-mul-steps c = search needs
-
-add-steps : tie.Need-add-steps Inv-loop μ-loop
-add-steps c = search needs
-
-be32-requires : tie.Need-be32-requires Inv-loop μ-loop
-be32-requires c κs = search needs
+deltas-of-requires : tie.Need-deltas-of-requires Inv-loop μ-loop
+deltas-of-requires c κs = search needs
 
 cast-position : tie.Need-cast-position Inv-loop μ-loop
 cast-position c = search needs
-
-be32-requires-2 : tie.Need-be32-requires-2 Inv-loop μ-loop
-be32-requires-2 c κs = search needs
 
 cast-time : tie.Need-cast-time Inv-loop μ-loop
 cast-time c = search needs
@@ -40,29 +28,14 @@ add-loop c = search needs
 add-number : tie.Need-add-number Inv-loop μ-loop
 add-number c = search needs
 
-mul-be32 : tie.Need-mul-be32 Inv-loop μ-loop
-mul-be32 c = search needs
-
-add-be32 : tie.Need-add-be32 Inv-loop μ-loop
-add-be32 c = search needs
-
-be32-requires-3 : tie.Need-be32-requires-3 Inv-loop μ-loop
-be32-requires-3 c κs = search needs
+deltas-of-requires-2 : tie.Need-deltas-of-requires-2 Inv-loop μ-loop
+deltas-of-requires-2 c κs = search needs
 
 cast-position-2 : tie.Need-cast-position-2 Inv-loop μ-loop
 cast-position-2 c = search needs
 
 add-position : tie.Need-add-position Inv-loop μ-loop
 add-position c = search needs
-
-mul-be32-2 : tie.Need-mul-be32-2 Inv-loop μ-loop
-mul-be32-2 c = search needs
-
-add-be32-2 : tie.Need-add-be32-2 Inv-loop μ-loop
-add-be32-2 c = search needs
-
-be32-requires-4 : tie.Need-be32-requires-4 Inv-loop μ-loop
-be32-requires-4 c κs = search needs
 
 cast-time-2 : tie.Need-cast-time-2 Inv-loop μ-loop
 cast-time-2 c = search needs
@@ -85,24 +58,15 @@ last-spec =
     (tie.spec
     Inv-loop
     μ-loop
-    add-positions
-    mul-steps
-    add-steps
-    be32-requires
+    deltas-of-requires
     cast-position
-    be32-requires-2
     cast-time
     loop-holds
     add-loop
     add-number
-    mul-be32
-    add-be32
-    be32-requires-3
+    deltas-of-requires-2
     cast-position-2
     add-position
-    mul-be32-2
-    add-be32-2
-    be32-requires-4
     cast-time-2
     add-time
     loop-less

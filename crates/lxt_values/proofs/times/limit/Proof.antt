@@ -6,55 +6,31 @@ use Rattle.lxt_values.proofs.times.limit.Statement.{statement}
 use Rattle.lxt_values.proofs.times.limit.Tie as tie
 
 abbrev Inv-loop : tie.InvT-loop
-Inv-loop file times m t count positions steps position₀ time₀ i₀ position time i = Limiting file m t i position time
+Inv-loop file times m t count position₀ time₀ i₀ position time i = Limiting file m t i position time
 
 abbrev μ-loop : tie.MeasureT-loop
-μ-loop file times m t count positions steps position₀ time₀ i₀ position time i = m - i
+μ-loop file times m t count position₀ time₀ i₀ position time i = m - i
 
 returns : tie.Need-returns Inv-loop μ-loop
 returns c = no-table _ _ _ (c .before .before .pre) _ (c .if1 .taken)
 
-add-positions : tie.Need-add-positions Inv-loop μ-loop
-add-positions c = search needs
-
-mul-steps : tie.Need-mul-steps Inv-loop μ-loop
-mul-steps c = search needs
-
-add-steps : tie.Need-add-steps Inv-loop μ-loop
-add-steps c = search needs
-
-be32-requires : tie.Need-be32-requires Inv-loop μ-loop
-be32-requires c κs = search needs
+deltas-of-requires : tie.Need-deltas-of-requires Inv-loop μ-loop
+deltas-of-requires c κs = search needs
 
 returns-2 : tie.Need-returns-2 Inv-loop μ-loop
-returns-2 c = first-later _ _ _ (c .before .before .before .before .pre) _ (c .before .before .if1 .left) _ (c .before .be32 .ensures) (c .if2 .taken)
+returns-2 c = let read = c .before .before in let start = read .before .before .before in first-later _ _ _ (start .pre) _ (read .before .if1 .left) _ (read .deltas-of .ensures .1) (c .if2 .taken)
 
 loop-holds : tie.Need-loop-holds Inv-loop μ-loop
-loop-holds c = limiting-begun _ _ _ (c .before .before .before .before .pre) _ (c .before .before .if1 .left) _ (c .before .be32 .ensures) (c .if2 .left)
+loop-holds c = let read = c .before .before in let start = read .before .before .before in limiting-begun _ _ _ (start .pre) _ (read .before .if1 .left) _ (read .deltas-of .ensures .1) (c .if2 .left)
 
-mul-be32 : tie.Need-mul-be32 Inv-loop μ-loop
-mul-be32 c = search needs
-
-add-be32 : tie.Need-add-be32 Inv-loop μ-loop
-add-be32 c = search needs
-
-be32-requires-2 : tie.Need-be32-requires-2 Inv-loop μ-loop
-be32-requires-2 c κs = search needs
+deltas-of-requires-2 : tie.Need-deltas-of-requires-2 Inv-loop μ-loop
+deltas-of-requires-2 c κs = search needs
 
 cast-position : tie.Need-cast-position Inv-loop μ-loop
 cast-position c = search needs
 
 add-position : tie.Need-add-position Inv-loop μ-loop
 add-position c = search needs
-
-mul-be32-2 : tie.Need-mul-be32-2 Inv-loop μ-loop
-mul-be32-2 c = search needs
-
-add-be32-2 : tie.Need-add-be32-2 Inv-loop μ-loop
-add-be32-2 c = search needs
-
-be32-requires-3 : tie.Need-be32-requires-3 Inv-loop μ-loop
-be32-requires-3 c κs = search needs
 
 cast-time : tie.Need-cast-time Inv-loop μ-loop
 cast-time c = search needs
@@ -63,7 +39,7 @@ add-time : tie.Need-add-time Inv-loop μ-loop
 add-time c = search needs
 
 returns-3 : tie.Need-returns-3 Inv-loop μ-loop
-returns-3 c = limit-found _ _ _ (c .before .before .before .before .before .before .before .before .before .pre) _ _ _ _ (c .before .before .before .before .loop .inv) (c .before .before .before .loop-test .taken) _ _ (c .before .before .be322 .ensures) (c .before .be323 .ensures) (c .if3 .taken)
+returns-3 c = let entry = c .before .before .before in let top = entry .before .before in let start = top .before .before .before .before .before .before in limit-found _ _ _ (start .pre) _ _ _ _ (top .loop .inv) (entry .before .loop-test .taken) _ _ (entry .deltas-of2 .ensures .0) (entry .deltas-of2 .ensures .1) (c .if3 .taken)
 
 add-i : tie.Need-add-i Inv-loop μ-loop
 add-i c = search needs
@@ -72,10 +48,10 @@ loop-less : tie.Need-loop-less Inv-loop μ-loop
 loop-less c = search needs
 
 loop-again : tie.Need-loop-again Inv-loop μ-loop
-loop-again c = limiting-turn _ _ _ (c .before .before .before .before .before .before .before .before .before .pre) _ _ _ _ (c .before .before .before .before .loop .inv) (c .before .before .before .loop-test .taken) _ _ (c .before .before .be322 .ensures) (c .before .be323 .ensures) (c .if3 .left) (omega arith) (omega arith)
+loop-again c = let entry = c .before .before .before in let top = entry .before .before in let start = top .before .before .before .before .before .before in limiting-turn _ _ _ (start .pre) _ _ _ _ (top .loop .inv) (entry .before .loop-test .taken) _ _ (entry .deltas-of2 .ensures .0) (entry .deltas-of2 .ensures .1) (c .if3 .left) (omega arith) (omega arith)
 
 returns-4 : tie.Need-returns-4 Inv-loop μ-loop
-returns-4 c = no-limit _ _ _ (c .before .before .before .before .before .before .pre) _ _ _ _ (c .before .loop .inv) (c .loop-test .left)
+returns-4 c = let top = c .before in let start = top .before .before .before .before .before .before in no-limit _ _ _ (start .pre) _ _ _ _ (top .loop .inv) (c .loop-test .left)
 
 pub limit-spec : {M : Type 1} → statement M
 limit-spec =
@@ -84,20 +60,12 @@ limit-spec =
     Inv-loop
     μ-loop
     returns
-    add-positions
-    mul-steps
-    add-steps
-    be32-requires
+    deltas-of-requires
     returns-2
     loop-holds
-    mul-be32
-    add-be32
-    be32-requires-2
+    deltas-of-requires-2
     cast-position
     add-position
-    mul-be32-2
-    add-be32-2
-    be32-requires-3
     cast-time
     add-time
     returns-3

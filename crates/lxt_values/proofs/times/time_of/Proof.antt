@@ -6,55 +6,31 @@ use Rattle.lxt_values.proofs.times.time_of.Statement.{statement}
 use Rattle.lxt_values.proofs.times.time_of.Tie as tie
 
 abbrev Inv-loop : tie.InvT-loop
-Inv-loop file times m o count positions steps found₀ position₀ time₀ i₀ found position time i = Timing file m o i position time found
+Inv-loop file times m o count found₀ position₀ time₀ i₀ found position time i = Timing file m o i position time found
 
 abbrev μ-loop : tie.MeasureT-loop
-μ-loop file times m o count positions steps found₀ position₀ time₀ i₀ found position time i = m - i
+μ-loop file times m o count found₀ position₀ time₀ i₀ found position time i = m - i
 
 returns : tie.Need-returns Inv-loop μ-loop
 returns c = no-entry _ _ _ (c .before .before .pre) (c .if1 .taken) _
 
-add-positions : tie.Need-add-positions Inv-loop μ-loop
-add-positions c = search needs
-
-mul-steps : tie.Need-mul-steps Inv-loop μ-loop
-mul-steps c = search needs
-
-add-steps : tie.Need-add-steps Inv-loop μ-loop
-add-steps c = search needs
-
-be32-requires : tie.Need-be32-requires Inv-loop μ-loop
-be32-requires c κs = search needs
+deltas-of-requires : tie.Need-deltas-of-requires Inv-loop μ-loop
+deltas-of-requires c κs = search needs
 
 cast-found : tie.Need-cast-found Inv-loop μ-loop
 cast-found c = search needs
 
 loop-holds : tie.Need-loop-holds Inv-loop μ-loop
-loop-holds c = timing-begun _ _ _ (c .before .before .before .pre) _ (omega arith) _ (c .be32 .ensures)
+loop-holds c = let read = c .before in timing-begun _ _ _ (read .before .before .before .pre) _ (omega arith) _ (read .deltas-of .ensures .1)
 
-mul-be32 : tie.Need-mul-be32 Inv-loop μ-loop
-mul-be32 c = search needs
-
-add-be32 : tie.Need-add-be32 Inv-loop μ-loop
-add-be32 c = search needs
-
-be32-requires-2 : tie.Need-be32-requires-2 Inv-loop μ-loop
-be32-requires-2 c κs = search needs
+deltas-of-requires-2 : tie.Need-deltas-of-requires-2 Inv-loop μ-loop
+deltas-of-requires-2 c κs = search needs
 
 cast-position : tie.Need-cast-position Inv-loop μ-loop
 cast-position c = search needs
 
 add-position : tie.Need-add-position Inv-loop μ-loop
 add-position c = search needs
-
-mul-be32-2 : tie.Need-mul-be32-2 Inv-loop μ-loop
-mul-be32-2 c = search needs
-
-add-be32-2 : tie.Need-add-be32-2 Inv-loop μ-loop
-add-be32-2 c = search needs
-
-be32-requires-3 : tie.Need-be32-requires-3 Inv-loop μ-loop
-be32-requires-3 c κs = search needs
 
 cast-time : tie.Need-cast-time Inv-loop μ-loop
 cast-time c = search needs
@@ -69,19 +45,19 @@ loop-less : tie.Need-loop-less Inv-loop μ-loop
 loop-less c = search needs
 
 loop-again : tie.Need-loop-again Inv-loop μ-loop
-loop-again c = timing-taken _ _ _ (c .before .before .before .before .before .before .before .before .pre) _ _ _ _ _ (c .before .before .before .before .loop .inv) (c .before .before .before .loop-test .taken) _ _ (c .before .before .be322 .ensures) (c .before .be323 .ensures) (omega arith) (omega arith) (c .if2 .taken)
+loop-again c = let entry = c .before .before .before in let top = entry .before .before in let start = top .before .before .before .before .before in timing-taken _ _ _ (start .pre) _ _ _ _ _ (top .loop .inv) (entry .before .loop-test .taken) _ _ (entry .deltas-of2 .ensures .0) (entry .deltas-of2 .ensures .1) (omega arith) (omega arith) (c .if2 .taken)
 
 loop-less-2 : tie.Need-loop-less-2 Inv-loop μ-loop
 loop-less-2 c = search needs
 
 loop-again-2 : tie.Need-loop-again-2 Inv-loop μ-loop
-loop-again-2 c = timing-passed _ _ _ (c .before .before .before .before .before .before .before .before .pre) _ _ _ _ _ (c .before .before .before .before .loop .inv) (c .before .before .before .loop-test .taken) _ _ (c .before .before .be322 .ensures) (c .before .be323 .ensures) (omega arith) (omega arith) (c .if2 .left)
+loop-again-2 c = let entry = c .before .before .before in let top = entry .before .before in let start = top .before .before .before .before .before in timing-passed _ _ _ (start .pre) _ _ _ _ _ (top .loop .inv) (entry .before .loop-test .taken) _ _ (entry .deltas-of2 .ensures .0) (entry .deltas-of2 .ensures .1) (omega arith) (omega arith) (c .if2 .left)
 
 cast-result : tie.Need-cast-result Inv-loop μ-loop
-cast-result c = omega (arith, time-fits _ _ _ (c .before .before .before .before .before .pre) (λ i. omega (arith, c .before .before .before .before .shared-slice-known .given i)) (c .before .before .before .before .before .args .o), timing-done _ _ _ (c .before .before .before .before .before .pre) _ _ _ _ _ (c .before .loop .inv) (c .loop-test .left))
+cast-result c = let top = c .before in let start = top .before .before .before .before .before in let done = timing-done _ _ _ (start .pre) _ _ _ _ _ (top .loop .inv) (c .loop-test .left) in omega (arith, time-fits _ _ _ (start .pre) (λ i. omega (arith, top .before .before .before .before .shared-slice-known .given i)) (start .args .o), done)
 
 returns-2 : tie.Need-returns-2 Inv-loop μ-loop
-returns-2 c = timing-done _ _ _ (c .before .before .before .before .before .pre) _ _ _ _ _ (c .before .loop .inv) (c .loop-test .left)
+returns-2 c = let top = c .before in let start = top .before .before .before .before .before in timing-done _ _ _ (start .pre) _ _ _ _ _ (top .loop .inv) (c .loop-test .left)
 
 pub time-of-spec : {M : Type 1} → statement M
 time-of-spec =
@@ -90,20 +66,12 @@ time-of-spec =
     Inv-loop
     μ-loop
     returns
-    add-positions
-    mul-steps
-    add-steps
-    be32-requires
+    deltas-of-requires
     cast-found
     loop-holds
-    mul-be32
-    add-be32
-    be32-requires-2
+    deltas-of-requires-2
     cast-position
     add-position
-    mul-be32-2
-    add-be32-2
-    be32-requires-3
     cast-time
     add-time
     add-i
