@@ -85,24 +85,24 @@ symbol-cases c =
       ]
     ]
 
-module _ (s : List ℕ) (T width o : ℕ) (b size d : ℕ) (eb : b ≡ symbolSize (byteAt s o % 16)) (ed : d ≡ deltaSize s o) (es : size ≡ packedSize b width) where
-  end-is : dataAt s o + packedSize (symbolSize (commandOf s o)) width ≡ o + 1 + d + size
-  unfolding dataAt commandOf
-  end-is = rw (es, eb, ed)
+module _ (s : List ℕ) (T width o : ℕ) (b size at : ℕ) (eb : b ≡ symbolSize (byteAt s o % 16)) (ea : at ≡ dataAt s o) (es : size ≡ packedSize b width) where
+  end-is : dataAt s o + packedSize (symbolSize (commandOf s o)) width ≡ at + size
+  unfolding commandOf
+  end-is = rw (es, eb, ea)
 
   module _ (w : Window) (k : Known s w) where
-    pub symbols-out : T < o + 1 + d + size → Found s (symbolFault s T width o) (record { fault = 15; window = w })
+    pub symbols-out : T < at + size → Found s (symbolFault s T width o) (record { fault = 15; window = w })
     unfolding symbolFault
     symbols-out h = record { number = (let g : T < dataAt s o + packedSize (symbolSize (commandOf s o)) width = rw end-is h in simp (lt-leb _ _ g)); known = k }
 
-  module _ (h : o + 1 + d + size ≤ T) where
-    pub data-there : 1 ≤ width → width ≤ widestFacility → T ≤ length s → Data s b width (o + 1 + d)
+  module _ (h : at + size ≤ T) where
+    pub data-there : 1 ≤ width → width ≤ widestFacility → T ≤ length s → Data s b width at
     data-there least most fits = record { symbols = rw eb (symbol-cases (byteAt s o % 16)); least = least; most = most; inside = rw (← es) (omega arith) }
 
-    module _ (c : Checked) (a : Answered s (symbolsAllowed s b width (o + 1 + d)) c) where
+    module _ (c : Checked) (a : Answered s (symbolsAllowed s b width at) c) where
       allowed-is : c .allowed ≡ symbolsAllowed s (symbolSize (commandOf s o)) width (dataAt s o)
-      unfolding dataAt commandOf
-      allowed-is = a .answer ∙ rw (eb, ed)
+      unfolding commandOf
+      allowed-is = a .answer ∙ rw (eb, ea)
 
       fits : leb (dataAt s o + packedSize (symbolSize (commandOf s o)) width) T ≡ true
       fits = rw end-is (le-leb _ _ h)
@@ -117,16 +117,16 @@ module _ (s : List ℕ) (T width o : ℕ) (b size d : ℕ) (eb : b ≡ symbolSiz
 
 -- ---- reals and texts
 
-module _ (s : List ℕ) (T o d : ℕ) (ed : d ≡ deltaSize s o) where
-  real-end : changeEnd s (signal 0 T Real 0) o ≡ o + 1 + d + 8
-  unfolding changeEnd dataSize dataAt
-  real-end = rw ed
+module _ (s : List ℕ) (T o at : ℕ) (ea : at ≡ dataAt s o) where
+  real-end : changeEnd s (signal 0 T Real 0) o ≡ at + 8
+  unfolding changeEnd dataSize
+  real-end = rw ea
 
-  pub real-out : T < o + 1 + d + 8 → 15 ≡ bodyFault s T Real 0 o
+  pub real-out : T < at + 8 → 15 ≡ bodyFault s T Real 0 o
   unfolding bodyFault
   real-out h = let g : T < changeEnd s (signal 0 T Real 0) o = rw real-end h in simp (lt-leb _ _ g)
 
-  pub real-in : o + 1 + d + 8 ≤ T → 0 ≡ bodyFault s T Real 0 o
+  pub real-in : at + 8 ≤ T → 0 ≡ bodyFault s T Real 0 o
   unfolding bodyFault dataAllowed
   real-in h = let g : changeEnd s (signal 0 T Real 0) o ≤ T = rw real-end h in simp (le-leb _ _ g)
 
@@ -155,18 +155,18 @@ module _ (s : List ℕ) (T z : ℕ) (w : LastZero s T z) (fits : T ≤ length s)
             absurd (w .none-after (p + toZero (slice p T s)) (omega arith) (omega arith) (sym (part-at s p T (toZero (slice p T s)) (omega arith)) ∙ at-zero (slice p T s) i)))
       ]
 
-module _ (s : List ℕ) (T z o d : ℕ) (w : LastZero s T z) (fits : T ≤ length s) (ed : d ≡ deltaSize s o) where
-  text-end : changeEnd s (signal 0 T Text 0) o ≡ (o + 1 + d) + (toZero (slice (o + 1 + d) T s) + 1)
-  unfolding changeEnd dataSize dataAt
-  text-end = rw ed
+module _ (s : List ℕ) (T z o at : ℕ) (w : LastZero s T z) (fits : T ≤ length s) (ea : at ≡ dataAt s o) where
+  text-end : changeEnd s (signal 0 T Text 0) o ≡ at + (toZero (slice at T s) + 1)
+  unfolding changeEnd dataSize
+  text-end = rw ea
 
-  pub text-out : z ≤ o + 1 + d → 15 ≡ bodyFault s T Text 0 o
+  pub text-out : z ≤ at → 15 ≡ bodyFault s T Text 0 o
   unfolding bodyFault
-  text-out h = let g : T < changeEnd s (signal 0 T Text 0) o = rw text-end (passes s T z w fits (o + 1 + d) h) in simp (lt-leb _ _ g)
+  text-out h = let g : T < changeEnd s (signal 0 T Text 0) o = rw text-end (passes s T z w fits at h) in simp (lt-leb _ _ g)
 
-  pub text-in : o + 1 + d < z → 0 ≡ bodyFault s T Text 0 o
+  pub text-in : at < z → 0 ≡ bodyFault s T Text 0 o
   unfolding bodyFault dataAllowed
-  text-in h = let g : changeEnd s (signal 0 T Text 0) o ≤ T = rw text-end (ends-before s T z w fits (o + 1 + d) h) in simp (le-leb _ _ g)
+  text-in h = let g : changeEnd s (signal 0 T Text 0) o ≤ T = rw text-end (ends-before s T z w fits at h) in simp (le-leb _ _ g)
 
 -- ---- a change of any kind
 

@@ -17,6 +17,14 @@ pub fn size_of(file: &[u8], o: usize) -> usize
     wide(file[o] / 16 % 4) as usize + 1
 }
 
+// Where the data of the change at `o` starts, after its command byte and its delta.
+pub fn data_at(file: &[u8], o: usize) -> usize
+    requires { ⌜ o < length (now file) ⌝ }
+    ensures { λ r. ⌜ (r ≡ dataAt (now (file .entry)) o) × ((o + 2 ≤ r) × (r ≤ o + 5)) ⌝ }
+{
+    o + 1 + size_of(file, o)
+}
+
 // The number in `size` bytes from `at` on.
 fn number(file: &[u8], size: usize, at: usize) -> u32
     requires { ⌜ ((1 ≤ size) × (size ≤ 4)) × (at + size ≤ length (now file)) ⌝ }

@@ -10,6 +10,7 @@ ghost use Rattle.lxt_format.specs.Changes.{signal, changeEnd};
 use crate::delta;
 use crate::symbols;
 use lxt_format::Kind;
+use lxt_sections::zeros::zero_from;
 
 // A zero byte stands from `from` on before `bound`: the text from `from` on up to `end` ends there. No
 // byte from `bound` on is read.
@@ -17,14 +18,7 @@ fn zero_before(file: &[u8], from: usize, bound: usize, end: usize) -> bool
     requires { ⌜ (bound ≤ end) × (end ≤ length (now file)) ⌝ }
     ensures { λ r. ⌜ r ≡ leb (from + (toZero (slice from end (now (file .entry))) + 1)) bound ⌝ }
 {
-    let mut p = from;
-    while p < bound {
-        if file[p] == 0 {
-            return true;
-        }
-        p += 1;
-    }
-    false
+    zero_from(file, from, bound) < bound
 }
 
 // The change at `o` ends at or below `bound`; T is `end`. C does not matter: 0 stands for it.
@@ -32,7 +26,7 @@ pub fn ends_by(file: &[u8], end: usize, kind: Kind, width: u32, o: usize, bound:
     requires { ⌜ (width ≤ widestFacility) × ((o < length (now file)) × ((bound ≤ end) × (end ≤ length (now file)))) ⌝ }
     ensures { λ r. ⌜ r ≡ leb (changeEnd (now (file .entry)) (signal 0 end kind width) o) bound ⌝ }
 {
-    let at = o + 1 + delta::size_of(file, o);
+    let at = delta::data_at(file, o);
     let b = symbols::size_of(file[o]);
     match kind {
         Kind::Bits => at + symbols::packed_size(b, width) <= bound,

@@ -57,7 +57,7 @@ fn symbol_fault(file: &[u8], end: usize, width: u32, o: usize, w: Window) -> Fau
     ensures { λ r. ⌜ Found (now (file .entry)) (symbolFault (now (file .entry)) end width o) r ⌝ }
 {
     let b = symbols::size_of(file[o]);
-    let at = o + 1 + delta::size_of(file, o);
+    let at = delta::data_at(file, o);
     if end < at + symbols::packed_size(b, width) {
         return Faulted {
             fault: 15,
@@ -83,7 +83,7 @@ fn real_fault(file: &[u8], end: usize, o: usize) -> u8
     requires { ⌜ (o < end) × (end ≤ length (now file)) ⌝ }
     ensures { λ r. ⌜ r ≡ bodyFault (now (file .entry)) end Kind.Real 0 o ⌝ }
 {
-    if end < o + 1 + delta::size_of(file, o) + 8 {
+    if end < delta::data_at(file, o) + 8 {
         return 15;
     }
     0
@@ -94,7 +94,7 @@ fn text_fault(file: &[u8], end: usize, zero: usize, o: usize) -> u8
     requires { ⌜ LastZero (now file) end zero × ((o < end) × (end ≤ length (now file))) ⌝ }
     ensures { λ r. ⌜ r ≡ bodyFault (now (file .entry)) end Kind.Text 0 o ⌝ }
 {
-    if zero <= o + 1 + delta::size_of(file, o) {
+    if zero <= delta::data_at(file, o) {
         return 15;
     }
     0

@@ -1,3 +1,4 @@
 pub mod FrameLaws
 pub mod ListLaws
 pub mod PlaceLaws
+pub mod ZeroLaws

@@ -13,6 +13,7 @@ use lxt_format::SectionCursor;
 use lxt_format::Summary;
 
 pub mod times;
+pub mod zeros;
 
 pub fn wide(x: u8) -> u32
     ensures { λ r. ⌜ (r ≡ x) × (r < 256) ⌝ }

@@ -20,22 +20,6 @@ use Rattle.lxt_format.specs.BytesLaws.{u16-bytes}
 use Rattle.lxt_format.specs.declared.NameCursor.{NameCursor}
 use Rattle.lxt_format.specs.Names.{named, namesIn, memoryOf, withinMemory}
 
--- ---- up to a zero: a turn at p, where w is what the whole gives
-
-module _ (s : List ℕ) (p e w : ℕ) (inv : p + toZero (slice p e s) ≡ w) where
-  module _ (l : p < e) (m : e ≤ length s) where
-    pub met : getD s p 0 ≡ 0 → p ≡ w
-    unfolding toZero
-    met h = let q = simp (slice-cons p e s 0 l m, eq-eqb _ _ h) at inv in omega arith
-
-    pub passed : (getD s p 0 ≡ 0 → ⊥) → p + 1 + toZero (slice (p + 1) e s) ≡ w
-    unfolding toZero
-    passed h = let q = simp (slice-cons p e s 0 l m, ne-eqb _ _ h) at inv in rw add-one (omega arith)
-
-  pub at-end : p ≤ e → e ≤ p → p ≡ w
-  unfolding toZero
-  at-end a b = let q : p ≡ e = omega arith in let r = rw (q, slice-empty e s) at inv in omega arith
-
 -- ---- lengths decide
 
 -- the next n names in the bytes bs keep the rules, after a name of l bytes and with m bytes of memory left
@@ -137,7 +121,7 @@ module _ (s : List ℕ) (T : ℕ) (t : T ≤ length s) where
     short few = sym (cut-off n p l m pos few) ∙ inv
 
     -- v is what the prefix bytes say, z the offset of the first zero, b whether the name is short enough
-    module _ (two : 2 ≤ T - p) (v : ℕ) (ev : v ≡ u16At s p) (z : ℕ) (ez : z ≡ p + 2 + toZero (slice (p + 2) T s)) (zT : z ≤ T) (b : Bool)
+    module _ (two : 2 ≤ T - p) (v : ℕ) (ev : v ≡ u16At s p) (z : ℕ) (ez : z ≡ p + 2 + toZero (slice (p + 2) T s)) (zT : z - (p + 2) ≤ T - (p + 2)) (b : Bool)
         (eb : b ≡ leb (v + (z - (p + 2))) longestName) where
       abbrev size : ℕ
       size = v + (z - (p + 2))

@@ -4,28 +4,13 @@ ghost use mathlib.Core.List.{[]};
 ghost use Prim.Native.Nat.{_+_, _≤_};
 ghost use lib.ListN.{length};
 ghost use lib.Seq.{slice};
-ghost use Rattle.lxt_format.specs.Bytes.{toZero};
 ghost use Rattle.lxt_format.specs.Names.{namesIn, withinMemory, namesAllowed};
 ghost use Rattle.lxt_tables.specs.Asked.{Placed};
 use lxt_format::NameCursor;
 use lxt_sections::Sections;
 use lxt_sections::be16;
 use lxt_sections::be32;
-
-// The offset of the first zero from `from` on, or `end`.
-pub fn zero_from(file: &[u8], from: usize, end: usize) -> usize
-    requires { ⌜ (from ≤ end) × (end ≤ length (now file)) ⌝ }
-    ensures { λ r. ⌜ (r ≡ from + toZero (slice from end (now (file .entry)))) × (r ≤ end) ⌝ }
-{
-    let mut p = from;
-    while p < end {
-        if file[p] == 0 {
-            return p;
-        }
-        p += 1;
-    }
-    p
-}
+use lxt_sections::zeros::zero_from;
 
 // The `n` names from `at` up to `end` keep the rules, and M is not too small for them.
 pub fn names_allowed(file: &[u8], at: usize, end: usize, n: u32, memory: u32) -> bool

@@ -1,6 +1,5 @@
 pub mod SymbolLaws
 pub mod RealLaws
-pub mod TextLaws
 pub mod TimeLaws
 pub mod CopyLaws
 pub mod NameLaws

@@ -85,29 +85,24 @@ module _ (s : List ℕ) (end : ℕ) (order : List ℕ) (kind : Kind) (width o ro
         let long = symbols-long s width o (integer-drawn .0) in
         (rw (e, long), h ∙ rw (e, long))
 
-  module _ (d : ℕ) (ed : d ≡ deltaSize s o) where
-    at-is : o + 1 + d ≡ dataAt s o
-    unfolding dataAt
-    at-is = rw ed
-
+  module _ (at : ℕ) (at-is : at ≡ dataAt s o) where
     module _ (e : kind ≡ Real) where
-      pub real-asks : Places order × ((o + 1 + d) + 8 ≤ length s)
+      pub real-asks : Places order × (at + 8 ≤ length s)
       unfolding changeEnd dataSize
       real-asks =
           let g : dataAt s o + 8 ≤ endOf s = rw e at (w .sound .ends) in
-          let a = at-is in
           let l = w .limit in
           let h = w .within in
           (w .places e, omega arith)
 
-      pub real-read : (word : ℕ) → word ≡ bitsInOrder s (o + 1 + d) order → (x : Float) → x ≡ R.realOf word → (before : List ℕ)
+      pub real-read : (word : ℕ) → word ≡ bitsInOrder s at order → (x : Float) → x ≡ R.realOf word → (before : List ℕ)
           → (given (realOf x word) ≡ given (shown (contentBy s kind width o))) × (before ≡ holdingBits (contentBy s kind width o) before)
       unfolding contentBy holdingBits written realBits
       real-read word ew x ex before =
           let v : word ≡ bitsInOrder s (dataAt s o) (byteOrder s) = ew ∙ rw (at-is, w .ordered e) in
           (rw (e, ex, v), rw e)
 
-    module _ (e : kind ≡ Text) (n : ℕ) (en : n ≡ toZero (slice (o + 1 + d) end s)) where
+    module _ (e : kind ≡ Text) (n : ℕ) (en : n ≡ toZero (slice at end s)) where
       pub length-small : n < 4294967296
       unfolding changeEnd dataSize
       length-small =
@@ -119,6 +114,6 @@ module _ (s : List ℕ) (end : ℕ) (order : List ℕ) (kind : Kind) (width o ro
           omega arith
 
       pub text-read : (before : List ℕ)
-          → (given (textOf (o + 1 + d) n) ≡ given (shown (contentBy s kind width o))) × (before ≡ holdingBits (contentBy s kind width o) before)
+          → (given (textOf at n) ≡ given (shown (contentBy s kind width o))) × (before ≡ holdingBits (contentBy s kind width o) before)
       unfolding contentBy holdingBits written
       text-read before = (rw (e, en, at-is, w .limit), rw e)

@@ -167,61 +167,56 @@ module _ (b p : ℕ) (sizes : Sizes b p) (s : List ℕ) (width o : ℕ) (k : Pac
 
 -- ---- the ways through `write`
 
-module _ (s : List ℕ) (width o : ℕ) (k : Drawn s width o) (d : ℕ) (ed : d ≡ deltaSize s o) where
-  -- where the data starts
-  data-is : dataAt s o ≡ o + 1 + d
-  unfolding dataAt
-  data-is = rw ed
-
+module _ (s : List ℕ) (width o : ℕ) (k : Drawn s width o) (at : ℕ) (at-is : at ≡ dataAt s o) where
   module _ (b : ℕ) (some-data : b ≡ 0 → ⊥) (size : symbolSize (byteAt s o % 16) ≡ b) where
     size-is : symbolSize (commandOf s o) ≡ b
     unfolding commandOf
     size-is = size
 
     -- the data of symbols of b bits
-    drawn-data : Packed s b width (o + 1 + d)
+    drawn-data : Packed s b width at
     drawn-data =
         record {
-          inside = rw (size-is, data-is) at (k .inside);
-          codes = rw (size-is, data-is) at (k .codes (rw size-is some-data));
+          inside = rw (size-is, ← at-is) at (k .inside);
+          codes = rw (size-is, ← at-is) at (k .codes (rw size-is some-data));
         }
 
     -- its symbols are those of the change
-    drawn-symbols : (d₀ d′ : List ℕ) → d′ ≡ symbolsOf s b width (o + 1 + d) ++ drop width d₀ → d′ ≡ symbolsAt s width o ++ drop width d₀
+    drawn-symbols : (d₀ d′ : List ℕ) → d′ ≡ symbolsOf s b width at ++ drop width d₀ → d′ ≡ symbolsAt s width o ++ drop width d₀
     unfolding symbolsAt
-    drawn-symbols d₀ d′ e = rw (size-is, data-is) (simp (ne-eqb b 0 some-data) e)
+    drawn-symbols d₀ d′ e = rw (size-is, ← at-is) (simp (ne-eqb b 0 some-data) e)
 
   -- commands 0, 1 and 2
   module _ (e : byteAt s o % 16 ≡ 0) where
     -- the data of command 0
-    pub data-1 : Packed s 1 width (o + 1 + d)
+    pub data-1 : Packed s 1 width at
     unfolding symbolSize
     data-1 = drawn-data 1 (omega arith) (rw e)
 
     -- its symbols are written
-    pub wrote-1 : (d₀ d′ : List ℕ) → d′ ≡ symbolsOf s 1 width (o + 1 + d) ++ drop width d₀ → d′ ≡ symbolsAt s width o ++ drop width d₀
+    pub wrote-1 : (d₀ d′ : List ℕ) → d′ ≡ symbolsOf s 1 width at ++ drop width d₀ → d′ ≡ symbolsAt s width o ++ drop width d₀
     unfolding symbolSize
     wrote-1 = drawn-symbols 1 (omega arith) (rw e)
 
   module _ (e : byteAt s o % 16 ≡ 1) where
     -- the data of command 1
-    pub data-2 : Packed s 2 width (o + 1 + d)
+    pub data-2 : Packed s 2 width at
     unfolding symbolSize
     data-2 = drawn-data 2 (omega arith) (rw e)
 
     -- its symbols are written
-    pub wrote-2 : (d₀ d′ : List ℕ) → d′ ≡ symbolsOf s 2 width (o + 1 + d) ++ drop width d₀ → d′ ≡ symbolsAt s width o ++ drop width d₀
+    pub wrote-2 : (d₀ d′ : List ℕ) → d′ ≡ symbolsOf s 2 width at ++ drop width d₀ → d′ ≡ symbolsAt s width o ++ drop width d₀
     unfolding symbolSize
     wrote-2 = drawn-symbols 2 (omega arith) (rw e)
 
   module _ (e : byteAt s o % 16 ≡ 2) where
     -- the data of command 2
-    pub data-4 : Packed s 4 width (o + 1 + d)
+    pub data-4 : Packed s 4 width at
     unfolding symbolSize
     data-4 = drawn-data 4 (omega arith) (rw e)
 
     -- its symbols are written
-    pub wrote-4 : (d₀ d′ : List ℕ) → d′ ≡ symbolsOf s 4 width (o + 1 + d) ++ drop width d₀ → d′ ≡ symbolsAt s width o ++ drop width d₀
+    pub wrote-4 : (d₀ d′ : List ℕ) → d′ ≡ symbolsOf s 4 width at ++ drop width d₀ → d′ ≡ symbolsAt s width o ++ drop width d₀
     unfolding symbolSize
     wrote-4 = drawn-symbols 4 (omega arith) (rw e)
 

@@ -74,7 +74,7 @@ pub fn write(file: &[u8], width: u32, o: usize, bits: &mut [u8])
     ensures { λ _. ⌜ now (bits .exit) ≡ symbolsAt (now (file .entry)) width o ++ drop width (now (bits .entry)) ⌝ }
 {
     let command = file[o] % 16;
-    let at = o + 1 + delta::size_of(file, o);
+    let at = delta::data_at(file, o);
     if command == 0 {
         unpack_1(file, at, width as usize, bits);
         return;

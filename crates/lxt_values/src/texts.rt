@@ -4,18 +4,12 @@ ghost use Prim.Native.Nat.{_-_, _≤_};
 ghost use lib.ListN.{length};
 ghost use lib.Seq.{slice};
 ghost use Rattle.lxt_format.specs.Bytes.{toZero};
+use lxt_sections::zeros::zero_from;
 
 // How many bytes stand from `from` on before the first zero, or before `end` where there is none.
 pub fn length(file: &[u8], from: usize, end: usize) -> usize
     requires { ⌜ end ≤ length (now file) ⌝ }
     ensures { λ r. ⌜ (r ≡ toZero (slice from end (now (file .entry)))) × (r ≤ end - from) ⌝ }
 {
-    let mut p = from;
-    while p < end {
-        if file[p] == 0 {
-            return p - from;
-        }
-        p += 1;
-    }
-    p - from
+    zero_from(file, from, end) - from
 }

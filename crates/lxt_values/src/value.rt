@@ -27,7 +27,7 @@ pub fn read(
     requires { ⌜ Readies (now file) end order kind width o (length (now bits)) ⌝ }
     ensures { λ r. ⌜ (valueSays r ≡ given (shown (contentBy (now (file .entry)) kind width o))) × (now (bits .exit) ≡ holdingBits (contentBy (now (file .entry)) kind width o) (now (bits .entry))) ⌝ }
 {
-    let at = o + 1 + delta::size_of(file, o);
+    let at = delta::data_at(file, o);
     match kind {
         Kind::Bits => {
             symbols::write(file, width, o, bits);

@@ -3,20 +3,14 @@ use borrow.Author.Needs.{needs}
 use Rattle.lxt_changes.proofs.ends.ends_by.Statement.{statement}
 use Rattle.lxt_changes.proofs.ends.ends_by.Tie as tie
 
-add-at : tie.Need-add-at
-add-at c = search needs
-
-size-of-requires : tie.Need-size-of-requires
-size-of-requires c κs = search needs
-
-add-at-2 : tie.Need-add-at-2
-add-at-2 c = search needs
+data-at-requires : tie.Need-data-at-requires
+data-at-requires c κs = search needs
 
 shared-slice-read-size-of : tie.Need-shared-slice-read-size-of
 shared-slice-read-size-of c = search needs
 
-size-of-requires-2 : tie.Need-size-of-requires-2
-size-of-requires-2 c κs = search needs
+size-of-requires : tie.Need-size-of-requires
+size-of-requires c κs = search needs
 
 enum-told : tie.Need-enum-told
 enum-told c = search needs
@@ -64,11 +58,9 @@ pub ends-by-spec : {M : Type 1} → statement M
 ends-by-spec =
     tie.close
     (tie.spec
-    add-at
-    size-of-requires
-    add-at-2
+    data-at-requires
     shared-slice-read-size-of
-    size-of-requires-2
+    size-of-requires
     enum-told
     packed-size-requires
     add-result

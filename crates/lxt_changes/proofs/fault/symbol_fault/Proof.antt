@@ -10,14 +10,8 @@ shared-slice-read-size-of c = search needs
 size-of-requires : tie.Need-size-of-requires
 size-of-requires c κs = search needs
 
-add-at : tie.Need-add-at
-add-at c = search needs
-
-size-of-requires-2 : tie.Need-size-of-requires-2
-size-of-requires-2 c κs = search needs
-
-add-at-2 : tie.Need-add-at-2
-add-at-2 c = search needs
+data-at-requires : tie.Need-data-at-requires
+data-at-requires c κs = search needs
 
 packed-size-requires : tie.Need-packed-size-requires
 packed-size-requires c κs = search needs
@@ -33,7 +27,7 @@ data-allowed-requires c κs =
     let sizes = c .before .before .before in
     let pre = sizes .before .before .before .pre in (
       pre .0,
-      data-there _ _ _ _ _ _ _ (sizes .size-of .ensures .0) (c .before .before .size-of2 .ensures .0) (c .before .packed-size .ensures .0) (c .if1 .left)
+      data-there _ _ _ _ _ _ _ (sizes .size-of .ensures .0) (c .before .before .data-at .ensures .0) (c .before .packed-size .ensures .0) (c .if1 .left)
           (pre .1 .0 .0) (pre .1 .0 .1) (pre .1 .1 .1),
     )
 
@@ -49,9 +43,7 @@ symbol-fault-spec =
     (tie.spec
     shared-slice-read-size-of
     size-of-requires
-    add-at
-    size-of-requires-2
-    add-at-2
+    data-at-requires
     packed-size-requires
     add-if1
     returns

@@ -3,14 +3,8 @@ use borrow.Author.Needs.{needs}
 use Rattle.lxt_changes.proofs.fault.text_fault.Statement.{statement}
 use Rattle.lxt_changes.proofs.fault.text_fault.Tie as tie
 
-add-if1 : tie.Need-add-if1
-add-if1 c = search needs
-
-size-of-requires : tie.Need-size-of-requires
-size-of-requires c κs = search needs
-
-add-if1-2 : tie.Need-add-if1-2
-add-if1-2 c = search needs
+data-at-requires : tie.Need-data-at-requires
+data-at-requires c κs = search needs
 
 returns : tie.Need-returns
 returns c = search text-out
@@ -19,4 +13,4 @@ returns-2 : tie.Need-returns-2
 returns-2 c = search text-in
 
 pub text-fault-spec : {M : Type 1} → statement M
-text-fault-spec = tie.close (tie.spec add-if1 size-of-requires add-if1-2 returns returns-2)
+text-fault-spec = tie.close (tie.spec data-at-requires returns returns-2)

@@ -6,41 +6,35 @@ use Rattle.lxt_values.proofs.symbols.write.Tie as tie
 shared-slice-read-command : tie.Need-shared-slice-read-command
 shared-slice-read-command c = search needs
 
-add-at : tie.Need-add-at
-add-at c = search needs
-
-size-of-requires : tie.Need-size-of-requires
-size-of-requires c κs = search needs
-
-add-at-2 : tie.Need-add-at-2
-add-at-2 c = search needs
+data-at-requires : tie.Need-data-at-requires
+data-at-requires c κs = search needs
 
 unpack-1-requires : tie.Need-unpack-1-requires
-unpack-1-requires c κs = (data-1 _ _ _ (c .before .before .before .before .before .before .pre .0) _ (c .before .before .size-of .ensures .0) (c .before .if1 .taken), c .before .before .before .before .before .before .pre .1)
+unpack-1-requires c κs = (data-1 _ _ _ (c .before .before .before .before .before .before .pre .0) _ (c .before .before .data-at .ensures .0) (c .before .if1 .taken), c .before .before .before .before .before .before .pre .1)
 
 same-length : tie.Need-same-length
 same-length c = search needs
 
 returns : tie.Need-returns
-returns c = wrote-1 _ _ _ (c .before .before .before .before .before .before .before .before .before .pre .0) _ (c .before .before .before .before .before .size-of .ensures .0) (c .before .before .before .before .if1 .taken) _ _ (c .before .before .unpack-1 .ensures)
+returns c = wrote-1 _ _ _ (c .before .before .before .before .before .before .before .before .before .pre .0) _ (c .before .before .before .before .before .data-at .ensures .0) (c .before .before .before .before .if1 .taken) _ _ (c .before .before .unpack-1 .ensures)
 
 unpack-2-requires : tie.Need-unpack-2-requires
-unpack-2-requires c κs = (data-2 _ _ _ (c .before .before .before .before .before .before .before .pre .0) _ (c .before .before .before .size-of .ensures .0) (c .before .if2 .taken), c .before .before .before .before .before .before .before .pre .1)
+unpack-2-requires c κs = (data-2 _ _ _ (c .before .before .before .before .before .before .before .pre .0) _ (c .before .before .before .data-at .ensures .0) (c .before .if2 .taken), c .before .before .before .before .before .before .before .pre .1)
 
 same-length-2 : tie.Need-same-length-2
 same-length-2 c = search needs
 
 returns-2 : tie.Need-returns-2
-returns-2 c = wrote-2 _ _ _ (c .before .before .before .before .before .before .before .before .before .before .pre .0) _ (c .before .before .before .before .before .before .size-of .ensures .0) (c .before .before .before .before .if2 .taken) _ _ (c .before .before .unpack-2 .ensures)
+returns-2 c = wrote-2 _ _ _ (c .before .before .before .before .before .before .before .before .before .before .pre .0) _ (c .before .before .before .before .before .before .data-at .ensures .0) (c .before .before .before .before .if2 .taken) _ _ (c .before .before .unpack-2 .ensures)
 
 unpack-4-requires : tie.Need-unpack-4-requires
-unpack-4-requires c κs = (data-4 _ _ _ (c .before .before .before .before .before .before .before .before .pre .0) _ (c .before .before .before .before .size-of .ensures .0) (c .before .if3 .taken), c .before .before .before .before .before .before .before .before .pre .1)
+unpack-4-requires c κs = (data-4 _ _ _ (c .before .before .before .before .before .before .before .before .pre .0) _ (c .before .before .before .before .data-at .ensures .0) (c .before .if3 .taken), c .before .before .before .before .before .before .before .before .pre .1)
 
 same-length-3 : tie.Need-same-length-3
 same-length-3 c = search needs
 
 returns-3 : tie.Need-returns-3
-returns-3 c = wrote-4 _ _ _ (c .before .before .before .before .before .before .before .before .before .before .before .pre .0) _ (c .before .before .before .before .before .before .before .size-of .ensures .0) (c .before .before .before .before .if3 .taken) _ _ (c .before .before .unpack-4 .ensures)
+returns-3 c = wrote-4 _ _ _ (c .before .before .before .before .before .before .before .before .before .before .before .pre .0) _ (c .before .before .before .before .before .before .before .data-at .ensures .0) (c .before .before .before .before .if3 .taken) _ _ (c .before .before .unpack-4 .ensures)
 
 sub-symbol-of : tie.Need-sub-symbol-of
 sub-symbol-of c = search needs
@@ -62,9 +56,7 @@ write-spec =
     tie.close
     (tie.spec
     shared-slice-read-command
-    add-at
-    size-of-requires
-    add-at-2
+    data-at-requires
     unpack-1-requires
     same-length
     returns

@@ -1,26 +1,23 @@
 use borrow.Author.Needs.{needs}
-use Prim.Native.Nat.{_+_, _≤_, _-_}
-use mathlib.Core.Path.{_≡_}
-use lib.Seq.{slice}
-use Rattle.lxt_format.specs.Bytes.{toZero}
-use Rattle.lxt_tables.proofs.NamesLaws.{met, passed, at-end}
-use Rattle.lxt_tables.proofs.names.zero_from.Statement.{statement}
-use Rattle.lxt_tables.proofs.names.zero_from.Tie as tie
+use Prim.Native.Nat.{_-_}
+use Rattle.lxt_sections.proofs.ZeroLaws.{Passed, none-passed, none-met, zero-met, one-passed}
+use Rattle.lxt_sections.proofs.zeros.zero_from.Statement.{statement}
+use Rattle.lxt_sections.proofs.zeros.zero_from.Tie as tie
 
 abbrev Inv-loop : tie.InvT-loop
-Inv-loop file from end p₀ p = (p ≤ end) × (p + toZero (slice p end file) ≡ from + toZero (slice from end file))
+Inv-loop file from end p₀ p = Passed file from end p
 
 abbrev μ-loop : tie.MeasureT-loop
 μ-loop file from end p₀ p = end - p
 
 loop-holds : tie.Need-loop-holds Inv-loop μ-loop
-loop-holds c = search needs
+loop-holds c = search none-passed
 
 shared-slice-read-if1 : tie.Need-shared-slice-read-if1 Inv-loop μ-loop
 shared-slice-read-if1 c = search needs
 
 returns : tie.Need-returns Inv-loop μ-loop
-returns c = (search met, search needs)
+returns c = zero-met _ _ _ _ (c .before .before .before .loop .inv) (c .before .before .loop-test .taken) (c .if1 .taken)
 
 add-p : tie.Need-add-p Inv-loop μ-loop
 add-p c = search needs
@@ -29,10 +26,10 @@ loop-less : tie.Need-loop-less Inv-loop μ-loop
 loop-less c = search needs
 
 loop-again : tie.Need-loop-again Inv-loop μ-loop
-loop-again c = (search needs, search passed)
+loop-again c = search one-passed
 
 returns-2 : tie.Need-returns-2 Inv-loop μ-loop
-returns-2 c = (search at-end, search needs)
+returns-2 c = none-met _ _ _ _ (c .before .loop .inv) (c .loop-test .left)
 
 pub zero-from-spec : {M : Type 1} → statement M
 zero-from-spec =

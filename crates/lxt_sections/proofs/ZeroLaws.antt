@@ -1,6 +1,6 @@
--- The laws of zero-terminated bytes.
+-- The laws of the search for a zero.
 use Prim.Native.Nat.{ℕ, suc, _+_, _-_, _≤_, _<_}
-use mathlib.Core.Path.{_≡_}
+use mathlib.Core.Path.{_≡_, refl}
 use mathlib.Core.List.{List, _∷_}
 use lib.ListN.{length, take, drop-of-length-le}
 use lib.Seq.{slice, slice-cons, length-slice, length-take-le}
@@ -9,18 +9,18 @@ use native.Mathlib.Numerals.{add-one}
 use Rattle.lxt_format.specs.Bytes.{byteAt, toZero}
 use Rattle.lxt_format.specs.BytesLaws.{zero-later, toZero-le}
 
--- no zero stands from `from` up to p, so that the text's length is what was passed and what is left
+-- no zero stands from `from` up to p: the first one from p on is the first one from `from` on
 pub record Passed (s : List ℕ) (from end p : ℕ) : Type 0 where
   pub fits : end ≤ length s
   pub within : from ≤ p
-  pub left : p - from + toZero (slice p end s) ≡ toZero (slice from end s)
+  pub left : p + toZero (slice p end s) ≡ from + toZero (slice from end s)
 
 -- nothing is passed yet
 pub none-passed : (s : List ℕ) (from end : ℕ) → end ≤ length s → Passed s from end from
-none-passed s from end h = record { fits = h; within = omega arith; left = omega arith }
+none-passed s from end h = record { fits = h; within = omega arith; left = refl }
 
 -- from `end` on there is nothing
-nothing-left : (s : List ℕ) (end p : ℕ) → end ≤ length s → end ≤ p → toZero (slice p end s) ≡ 0
+pub nothing-left : (s : List ℕ) (end p : ℕ) → end ≤ length s → end ≤ p → toZero (slice p end s) ≡ 0
 unfolding toZero
 nothing-left s end p h l =
     let e : length (take end s) ≡ end = length-take-le end s h in
@@ -29,8 +29,8 @@ nothing-left s end p h l =
 
 module _ (s : List ℕ) (from end p : ℕ) (w : Passed s from end p) where
   -- the end is met
-  pub text-ends : end ≤ p → (p - from ≡ toZero (slice from end s)) × (p - from ≤ end - from)
-  text-ends l =
+  pub none-met : end ≤ p → (p ≡ from + toZero (slice from end s)) × (p - from ≤ end - from)
+  none-met l =
       let e = w .left in
       let z = nothing-left s end p (w .fits) l in
       (omega arith, omega (arith, toZero-le (slice from end s), length-slice from end s (w .fits)))
@@ -41,7 +41,7 @@ module _ (s : List ℕ) (from end p : ℕ) (w : Passed s from end p) where
     here = slice-cons p end s 0 l (w .fits)
 
     -- a zero is met
-    pub zero-met : byteAt s p ≡ 0 → (p - from ≡ toZero (slice from end s)) × (p - from ≤ end - from)
+    pub zero-met : byteAt s p ≡ 0 → (p ≡ from + toZero (slice from end s)) × (p - from ≤ end - from)
     unfolding toZero
     zero-met e =
         let z : toZero (slice p end s) ≡ 0 = rw (here, e) in
