@@ -30,6 +30,7 @@ fn sort_of(reading: &Reading) -> &'static str {
         Reading::Real(_) => "real",
         Reading::Text(_) => "text",
         Reading::NotDriven => "not driven",
+        other => panic!("{other:?}"),
     }
 }
 
