@@ -318,3 +318,44 @@ impl Iterator for Walk<'_> {
 }
 
 impl FusedIterator for Walk<'_> {}
+
+#[cfg(test)]
+mod tests {
+    use super::{Change, Trace, Walk};
+
+    /// The sizes of a walk's batches, and its changes.
+    fn batches(mut walk: Walk) -> (Vec<usize>, Vec<Change>) {
+        let (mut sizes, mut changes) = (Vec::new(), Vec::new());
+        while let Some(change) = walk.next() {
+            if walk.next == 1 {
+                sizes.push(walk.count);
+            }
+            changes.push(change);
+        }
+        (sizes, changes)
+    }
+
+    #[test]
+    fn batches_double_up_to_the_largest() {
+        let bytes = include_bytes!("../../../traces/des.vcd2lxt-plain.unz.lxt");
+        let trace = Trace::open(bytes).expect("a trace");
+        let walk = trace.walk_all().expect("a walk");
+        let (sizes, changes) = batches(walk.clone());
+        let first = Walk::BATCH as usize;
+        let doubled = (0..sizes.len() - 1).map(|place| first << place);
+        assert_eq!(sizes[..sizes.len() - 1], Vec::from_iter(doubled));
+        assert_eq!(sizes.len(), 8);
+
+        // The same changes in one call, in calls of one size, and where the largest is soon reached.
+        let (one, expected) = batches(walk.clone().in_batches_of(u32::MAX));
+        assert_eq!((one, &changes), (vec![changes.len()], &expected));
+        let (even, expected) = batches(walk.clone().in_batches_of(50_000));
+        assert_eq!(even, [50_000, 50_000, 50_000, changes.len() - 150_000]);
+        assert_eq!(changes, expected);
+        let mut bounded = walk;
+        bounded.largest = 3_000;
+        let (sizes, expected) = batches(bounded);
+        assert_eq!(sizes[..4], [first, 2 * first, 3_000, 3_000]);
+        assert_eq!(changes, expected);
+    }
+}
