@@ -17,6 +17,7 @@ fn main() {
         "there is no {}: run `rt staticlib lxt_c` first, or say by LXT_ARCHIVE_DIR in which folder it is",
         archive.display()
     );
+    let archives = archives.canonicalize().expect("the archive's folder");
     println!("cargo:rustc-link-search=native={}", archives.display());
     println!("cargo:rustc-link-lib=static=lxt_c");
     println!("cargo:rerun-if-changed={}", archive.display());
