@@ -99,7 +99,7 @@ fn what_is_no_file_is_no_trace() {
     }
     let closed = folder.join("closed.lxt");
     fs::copy(trace("gpsim_blink.lxt"), &closed).expect("a copy");
-    fs::set_permissions(&closed, fs::Permissions::from_mode(0)).expect("a mode");
+    fs::set_permissions(&closed, fs::Permissions::from_mode(0o000)).expect("a mode");
     if File::open(&closed).is_ok() {
         println!("skipped: this user may read any file, so none is unreadable");
         return;
@@ -317,15 +317,22 @@ fn an_output_that_is_not_whole_is_told() {
         "printf 'refused 5'",
         "echo refused 5; echo facility 0 a bits 1",
         "echo refused",
+        "echo 'refused '",
         "echo done",
         "echo done 2x",
         "echo done 2; exit 1",
+        "echo done 2; echo no room >&2",
+        "echo done 2; echo no room >&2; exit 1",
         "echo done 2; kill -9 $$",
     ] {
         copied.program(body);
         let output = copied.run("gpsim_blink.lxt");
         assert_eq!((status(&output), &*output.stdout), (2, &b""[..]), "{body}");
         assert!(said(&output).contains("dump: "), "{body}");
+        assert_eq!(
+            said(&output).contains("no room\n"),
+            body.contains("no room")
+        );
     }
     // A name that looks like a refusal, in a whole output.
     copied.program("echo refused 5; echo done 0");
