@@ -3,10 +3,10 @@
  * Every function takes any bytes and any question, and answers 0 or the number of the one refusal, that of
  * the first check that fails (enum lxt_refusal). Where it refuses, nothing that was lent has changed.
  *
- * Each call judges the file first, by all of its checks, 1 to 17, whatever was asked before; only
- * lxt_carry_on makes but 1 to 14 of them. After the file come 18, 19, 21 and 22, in this order; in
- * lxt_carry_on 21 for the record, 20, and 21 for the output. So a question costs time that grows with the
- * file's length and its number of changes: to read many changes of a large file, walk.
+ * Each call judges the file first, by all of its checks, 1 to 17, whatever was asked before; lxt_carry_on
+ * alone makes only 1 to 14 of them. After the file come 18, 19, 21 and 22, in this order; in lxt_carry_on 21
+ * for the record, 20, and 21 for the output. So a question costs time that grows with the file's length and
+ * its number of changes: to read many changes of a large file, walk.
  *
  * What the caller owes:
  *

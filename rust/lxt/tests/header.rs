@@ -270,6 +270,10 @@ fn structs_and_constants_are_as_documented_in_c_and_cpp() {
         ("layout_c11", "cc", "-std=c11"),
         ("layout_cpp", "c++", "-std=c++11"),
     ] {
+        if compiler == "c++" && Command::new(compiler).arg("--version").output().is_err() {
+            println!("skipped: there is no C++ compiler");
+            continue;
+        }
         let program = made(name, compiler, standard, LAYOUT);
         let ran = Command::new(&program).status().expect("a run");
         assert!(ran.success(), "{name}: {ran:?}");
