@@ -1,21 +1,22 @@
 /* A proved reader of LXT traces.
  *
- * Every function takes any bytes and any question, and answers 0 or the number of the one refusal (1 to
- * 22), that of the first check that fails. Where it refuses, nothing that was lent has changed.
+ * Every function takes any bytes and any question, and answers 0 or the number of the one refusal, that of
+ * the first check that fails (enum lxt_refusal). Where it refuses, nothing that was lent has changed.
  *
- *   1 to 17   the file: 1 to 14 its frame, sections and tables, 15 to 17 its changes
- *   18        the facility's number is not below n
- *   19        no change of the facility is at that offset
- *   20        the record of a walk is not sound
- *   21        too little room
- *   22        the asked bytes are not n
+ * Each call judges the file first, by all of its checks, 1 to 17, whatever was asked before; lxt_carry_on
+ * alone makes only 1 to 14 of them. After the file come 18, 19, 21 and 22, in this order; in lxt_carry_on 21
+ * for the record, 20, and 21 for the output. So a question costs time that grows with the file's length and
+ * its number of changes: to read many changes of a large file, walk.
  *
- * The checks are made in this order, the file first, except by lxt_carry_on: it makes the checks 1 to 14 of
- * the file only, then 21 for the record, 20, and 21 for the output.
+ * What the caller owes:
  *
- * What the caller owes is what C owes any function: a pointer is to as many objects as its length or room
- * says, or to one object of its type (an array where a size stands in the comment), and no two of them
- * overlap. The functions keep nothing between calls: there is nothing to set up or to free.
+ * - A pointer is to as many objects as its length or room says, or to one object of its type. With a length
+ *   or room of 0 it may be null. No other pointer may be null.
+ * - No two of them overlap. What is lent, the bytes of the file above all, does not change during the call.
+ * - 128 KiB of stack are enough for each call; the most that was measured is 66,264 bytes.
+ *
+ * The functions keep nothing between calls: there is nothing to set up or to free, and calls can be made
+ * from any thread. The archive needs memcpy and memset of the C library and nothing else.
  */
 #ifndef LXT_H
 #define LXT_H
@@ -27,48 +28,160 @@
 extern "C" {
 #endif
 
-/* Judges a file. answer[4]: the number n of facilities, where the changes start (C), the offset of the
- * END byte (T), and the code of the initial symbol, 0 to 8 for 0 1 Z X H U W L -. */
-uint32_t lxt_judge(const uint8_t *file, size_t length, uint32_t *answer, int8_t *timescale);
+/* The limits of an accepted file: its length in bytes, its number n of facilities, the length of a name in
+ * bytes, the width of a facility in bits. With room for LXT_MOST_FACILITIES pairs, LXT_LONGEST_NAME bytes of
+ * names and LXT_WIDEST bytes of bits there is enough for every file. */
+enum {
+    LXT_SHORTEST_FILE = 6,
+    LXT_LONGEST_FILE = 16777216,
+    LXT_MOST_FACILITIES = 4096,
+    LXT_LONGEST_NAME = 1023,
+    LXT_WIDEST = 4096
+};
 
-/* The facts of a facility; an alias answers its root's. answer[2]: the width, and the kind: 0 bits,
- * 1 integer, 2 real, 3 text. */
-uint32_t lxt_facts(const uint8_t *file, size_t length, uint32_t facility, uint32_t *answer, int32_t *msb,
+/* What a function answers. docs/FORMAT.md has the rules behind each number, and an example. */
+enum lxt_refusal {
+    LXT_ACCEPTED = 0,
+    /* the file has fewer than 6 or more than 16,777,216 bytes */
+    LXT_REFUSED_LENGTH = 1,
+    /* the first bytes are not 01 38 and a version from 0 to 4 */
+    LXT_REFUSED_FIRST_BYTES = 2,
+    /* the last byte is not B4 */
+    LXT_REFUSED_LAST_BYTE = 3,
+    /* the section list runs below offset 4 before its END tag */
+    LXT_REFUSED_SECTION_LIST = 4,
+    /* a section is compressed (tags 0A to 12), which is not read here */
+    LXT_REFUSED_COMPRESSED = 5,
+    /* the times section has 64-bit times (tag 09), which are not read here */
+    LXT_REFUSED_LONG_TIMES = 6,
+    /* the changes, sync, names, geometry or times section (tags 01, 02, 03, 04, 06) is absent */
+    LXT_REFUSED_ABSENT = 7,
+    /* the changes start outside offset 4 to END, or the sync, names, geometry, timescale, times or
+       initial value section does not lie there */
+    LXT_REFUSED_PLACE = 8,
+    /* the names section counts more than 4,096 facilities */
+    LXT_REFUSED_TOO_MANY_FACILITIES = 9,
+    /* in the names section a name passes END, takes more than the name before has or is longer than
+       1,023 bytes, or all need more than the stated memory */
+    LXT_REFUSED_NAMES = 10,
+    /* in the geometry section the rows, flags or width of a facility are not allowed */
+    LXT_REFUSED_GEOMETRY = 11,
+    /* in the geometry section an alias leads to no facility, or in a circle */
+    LXT_REFUSED_ALIAS = 12,
+    /* in the times section positions or times are out of order or out of bounds, or there is no entry
+       although there are changes */
+    LXT_REFUSED_TIMES = 13,
+    /* there is a real facility, and the real test section (tag 08) is absent, out of bounds or no
+       reordering of 3.14159 */
+    LXT_REFUSED_REAL_TEST = 14,
+    /* a change starts outside the changes section, passes END, or leads back to an offset that is
+       neither 0 nor in that section */
+    LXT_REFUSED_CHANGE_PLACE = 15,
+    /* a change has a command byte or data that its facility does not allow */
+    LXT_REFUSED_CHANGE_BYTES = 16,
+    /* two changes share a byte, or two facilities that are no aliases share a change */
+    LXT_REFUSED_SHARED_BYTE = 17,
+    /* there is no facility of that number */
+    LXT_REFUSED_NO_FACILITY = 18,
+    /* the facility has no change at that offset */
+    LXT_REFUSED_NO_CHANGE = 19,
+    /* in the walk's record a pair has a wrong number, or a pending offset that is an alias's or from
+       which the changes downwards break a rule of 15 or 16 */
+    LXT_REFUSED_RECORD = 20,
+    /* too little room was lent: names need 1,023 bytes, bits the width, a record a pair for each
+       facility, an output two numbers for each change */
+    LXT_REFUSED_ROOM = 21,
+    /* the asked bytes are not one for each facility */
+    LXT_REFUSED_ASKED = 22
+};
+
+/* What judging answers of an accepted file. */
+typedef struct {
+    uint32_t facilities; /* n; facilities have the numbers 0 to n - 1 */
+    uint32_t changes;    /* C, where the changes start */
+    uint32_t end;        /* T, the offset of the END byte */
+    uint32_t initial;    /* the code of the initial symbol, 0 to 8: its place in LXT_SYMBOLS */
+} lxt_summary;
+
+/* The symbols that bits and integers are written in, by their codes. */
+#define LXT_SYMBOLS "01ZXHUWL-"
+
+/* Judges a file. One unit of time is ten to the power of timescale seconds: -9 is nanoseconds. Where the
+ * file has no timescale, or one outside -21 to 2, it is -9. */
+uint32_t lxt_judge(const uint8_t *file, size_t length, lxt_summary *summary, int8_t *timescale);
+
+enum lxt_kind { LXT_BITS = 0, LXT_INTEGER = 1, LXT_REAL = 2, LXT_TEXT = 3 };
+
+typedef struct {
+    uint32_t width; /* in symbols: |msb - lsb| + 1 of bits, 32 of an integer; 0 of a real or a text */
+    uint32_t kind;  /* an enum lxt_kind */
+} lxt_facility;
+
+/* The facts of a facility; an alias answers its root's. msb and lsb are the numbers of the first and the
+ * last symbol of bits; 31 and 0 of an integer, 0 and 0 of a real or a text. */
+uint32_t lxt_facts(const uint8_t *file, size_t length, uint32_t facility, lxt_facility *facts, int32_t *msb,
                    int32_t *lsb);
 
-/* The root of a facility; a root's root is itself. */
+/* The root of a facility, which has its changes; a root's root is itself. */
 uint32_t lxt_root(const uint8_t *file, size_t length, uint32_t facility, uint32_t *root);
 
-/* The name of a facility: its bytes, then zeros up to 1,023; later bytes stay. size is its length. */
+/* The name of a facility: its bytes, then zeros up to LXT_LONGEST_NAME; later bytes of names stay. size is
+ * its length. A name of that length has no zero behind it. room is LXT_LONGEST_NAME or more, however short
+ * the name. Names are any bytes but 0: of any encoding, line feeds and terminal escapes among them. */
 uint32_t lxt_name(const uint8_t *file, size_t length, uint32_t facility, uint8_t *names, size_t room,
                   uint32_t *size);
 
-/* The change before the change at an offset, 0 where there is none. */
+/* The offset of the change before the change at an offset; 0 where there is none. */
 uint32_t lxt_change_before(const uint8_t *file, size_t length, uint32_t facility, uint32_t offset,
                            uint32_t *before);
 
-/* A change's time and value. answer[3]: 0 and the width, with the symbols in the first bytes of bits;
- * 1 and the 64 bits of a real; 2 and the start and length of a text in the file; 3, not driven. */
-uint32_t lxt_change(const uint8_t *file, size_t length, uint32_t facility, uint32_t offset, uint8_t *bits,
-                    size_t room, uint32_t *time, uint64_t *answer);
+/* A value: what it is, and one or two numbers by what it is.
+ *
+ *     what               number                            length
+ *     LXT_IS_BITS        the width: so many symbols        0
+ *                        are the first bytes of bits
+ *     LXT_IS_REAL        the 64 bits of a binary64         0
+ *     LXT_IS_TEXT        where the text starts in          its length in bytes, without the
+ *                        the file                          zero behind it in the file
+ *     LXT_NOT_DRIVEN     0                                 0
+ *
+ * Bits and integers have symbols, LXT_SYMBOLS in ASCII, and need a room of their width or more; bytes of bits
+ * past the width stay, and all of them for a real or a text. A real's number as a double is
+ * memcpy(&real, &value.number, 8). Texts are any bytes but 0. Not driven is a real or a text that has no
+ * change up to the time; bits and integers have the initial symbol at every place then. */
+enum lxt_what { LXT_IS_BITS = 0, LXT_IS_REAL = 1, LXT_IS_TEXT = 2, LXT_NOT_DRIVEN = 3 };
 
-/* The value at a time, by the change of highest offset whose time is at most that; answer as above. */
+typedef struct {
+    uint64_t what; /* an enum lxt_what */
+    uint64_t number;
+    uint64_t length;
+} lxt_value;
+
+/* The time and the value of the change at an offset. */
+uint32_t lxt_change(const uint8_t *file, size_t length, uint32_t facility, uint32_t offset, uint8_t *bits,
+                    size_t room, uint32_t *time, lxt_value *value);
+
+/* The value at a time: that of the change of highest offset whose time is at most that. */
 uint32_t lxt_value_at(const uint8_t *file, size_t length, uint32_t facility, uint32_t time, uint8_t *bits,
-                      size_t room, uint64_t *answer);
+                      size_t room, lxt_value *value);
 
 /* The walk: all changes of the facilities asked for, the highest offset first, in calls of any size. All
- * changes of all facilities in batches of 64, where n is answer[0] of lxt_judge:
+ * changes of all facilities, where n is facilities of lxt_judge's summary:
  *
- *     static lxt_pair pairs[4096];      no file has more facilities
- *     static uint8_t asked[4096];
- *     uint32_t output[2 * 64], answer[2] = {0, 0};
+ *     static lxt_pair pairs[LXT_MOST_FACILITIES];
+ *     static uint8_t asked[LXT_MOST_FACILITIES];
+ *     static uint32_t output[2 * 65536];
+ *     lxt_handed handed = {0, 0};
  *     memset(asked, 1, n);
- *     uint32_t refused = lxt_start_walk(file, length, asked, n, pairs, 4096);
- *     while (!refused && !answer[1]) {
- *         refused = lxt_carry_on(file, length, pairs, n, 64, output, 2 * 64, answer);
- *         for (uint32_t i = 0; !refused && i < answer[0]; i++)
+ *     uint32_t refused = lxt_start_walk(file, length, asked, n, pairs, n);
+ *     while (!refused && !handed.done) {
+ *         refused = lxt_carry_on(file, length, pairs, n, 65536, output, 2 * 65536, &handed);
+ *         for (uint32_t i = 0; !refused && i < handed.count; i++)
  *             use(output[2 * i], output[2 * i + 1]);      the root's number, the change's offset
  *     }
+ *
+ * Each call reads again all changes that are still to come, so few large calls are faster than many small
+ * ones; the answers are the same.
  *
  * The record of a walk is an array of one pair per facility, n in all, in memory of the caller's. Pair i has
  * the number i and a pending offset: that of the next change of facility i to be handed out, or 0. Only
@@ -87,20 +200,24 @@ typedef struct {
 uint32_t lxt_start_walk(const uint8_t *file, size_t length, const uint8_t *asked, size_t asked_length,
                         lxt_pair *pairs, size_t room);
 
+typedef struct {
+    uint32_t count; /* how many changes were handed out */
+    uint32_t done;  /* 1 where all pending offsets are now 0 and the walk is done, else 0 */
+} lxt_handed;
+
 /* Carries on with a walk: up to size times the highest pending offset is handed out, as the root's number
  * and the change's offset, and replaced in the record by that of the change before, or 0. Of equal offsets
  * the lowest facility goes first; in a file that lxt_judge accepts no two are equal. The pairs stand one
  * after the other from the start of output, which counts numbers, two a pair; output past the pairs
- * written stays. answer[2]: how many pairs were handed out; 1 where all pending offsets are now 0 and the walk
- * is done, else 0. A size of 0 hands out none and tells whether the walk is done. After the end a call
- * hands out none and answers done.
+ * written stays. A size of 0 hands out none and tells whether the walk is done. After the end a call hands
+ * out none and answers done.
  * The same file is to be lent with each call, and the record as the call before left it; then only a
  * short output is refused, with 21, and the walk can carry on with the next call.
  * The refusals: 1 to 14 of the file; 21 where pairs_length is below n; 20 where a pair has a wrong number, or a
  * pending offset not 0 of an alias, or one whose changes downwards break a rule of 15 or 16; 21 where
  * output_room is below 2 * size, which does not wrap. */
 uint32_t lxt_carry_on(const uint8_t *file, size_t length, lxt_pair *pairs, size_t pairs_length, uint32_t size,
-                      uint32_t *output, size_t output_room, uint32_t *answer);
+                      uint32_t *output, size_t output_room, lxt_handed *handed);
 
 #ifdef __cplusplus
 }

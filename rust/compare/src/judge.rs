@@ -14,14 +14,15 @@ pub const TRACE: [u8; 95] = [
 
 /// Judges a file both ways and counts the answer: 0 for an accepted file.
 pub fn compare(file: &[u8], what: &str, seen: &mut BTreeMap<u8, u32>) {
-    let proved = lxt::judge(file).map_err(|refusal| refusal.number());
-    let expected = lxt_reference::judge(file).map(|summary| lxt::Summary {
+    let proved = lxt::judge(file).map(|summary| lxt_reference::Summary {
         facilities: summary.facilities,
         changes: summary.changes,
         end: summary.end,
         timescale: summary.timescale,
         initial: summary.initial,
     });
+    let proved = proved.map_err(|refusal| refusal.number());
+    let expected = lxt_reference::judge(file);
     assert_eq!(proved, expected, "{what}");
     *seen.entry(expected.err().unwrap_or(0)).or_default() += 1;
 }

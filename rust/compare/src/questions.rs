@@ -63,6 +63,7 @@ fn plain(value: lxt::Value) -> lxt_reference::Value {
         }
         lxt::Value::Text { start, length } => lxt_reference::Value::Text { start, length },
         lxt::Value::NotDriven => lxt_reference::Value::NotDriven,
+        other => panic!("{other:?}"),
     }
 }
 
@@ -212,6 +213,7 @@ impl<'a> Asked<'a> {
                 lxt::Kind::Integer => lxt_reference::Kind::Integer,
                 lxt::Kind::Real => lxt_reference::Kind::Real,
                 lxt::Kind::Text => lxt_reference::Kind::Text,
+                other => panic!("{other:?}"),
             },
         });
         let expected = self.expect(|judged| judged.facts(facility));

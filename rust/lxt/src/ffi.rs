@@ -8,10 +8,9 @@
 //!   whole call. Each one comes from a slice, an array or a reference that is borrowed for the call.
 //! - **Length**: the length beside a pointer counts the objects behind it, bytes, pairs or numbers. Both come
 //!   from one slice. That of an empty slice is no null pointer, and nothing is behind it.
-//! - **Fixed sizes**: a pointer without a length is to one object of its type, or to as many as the header
-//!   says in brackets. Those are arrays of that size.
+//! - **Fixed sizes**: a pointer without a length is to one object of its type, a number or a struct.
 //! - **Aligned**: a pointer is aligned as its type is, and no more. Rust's slices and references are, and
-//!   [`Pair`] has the layout of C's.
+//!   [`Pair`] and the structs of [`c`] have the layout of C's.
 //! - **No overlap**: nothing that is written is reached by another pointer. Each such pointer comes from
 //!   a `&mut`, which Rust gives to nothing else at the time:
 //!
@@ -24,14 +23,46 @@
 
 use crate::Pair;
 
-mod c {
+/// The header in Rust: its structs, field for field, and its functions.
+pub(crate) mod c {
     use crate::Pair;
+
+    #[repr(C)]
+    #[derive(Clone, Copy, Debug, Default, PartialEq, Eq)]
+    pub struct Summary {
+        pub facilities: u32,
+        pub changes: u32,
+        pub end: u32,
+        pub initial: u32,
+    }
+
+    #[repr(C)]
+    #[derive(Clone, Copy, Debug, Default, PartialEq, Eq)]
+    pub struct Facility {
+        pub width: u32,
+        pub kind: u32,
+    }
+
+    #[repr(C)]
+    #[derive(Clone, Copy, Debug, Default, PartialEq, Eq)]
+    pub struct Value {
+        pub what: u64,
+        pub number: u64,
+        pub length: u64,
+    }
+
+    #[repr(C)]
+    #[derive(Clone, Copy, Debug, Default, PartialEq, Eq)]
+    pub struct Handed {
+        pub count: u32,
+        pub done: u32,
+    }
 
     extern "C" {
         pub fn lxt_judge(
             file: *const u8,
             length: usize,
-            answer: *mut u32,
+            summary: *mut Summary,
             timescale: *mut i8,
         ) -> u32;
         pub fn lxt_root(file: *const u8, length: usize, facility: u32, root: *mut u32) -> u32;
@@ -57,13 +88,13 @@ mod c {
             time: u32,
             bits: *mut u8,
             room: usize,
-            answer: *mut u64,
+            value: *mut Value,
         ) -> u32;
         pub fn lxt_facts(
             file: *const u8,
             length: usize,
             facility: u32,
-            answer: *mut u32,
+            facts: *mut Facility,
             msb: *mut i32,
             lsb: *mut i32,
         ) -> u32;
@@ -75,7 +106,7 @@ mod c {
             bits: *mut u8,
             room: usize,
             time: *mut u32,
-            answer: *mut u64,
+            value: *mut Value,
         ) -> u32;
         pub fn lxt_start_walk(
             file: *const u8,
@@ -93,20 +124,20 @@ mod c {
             size: u32,
             output: *mut u32,
             output_room: usize,
-            answer: *mut u32,
+            handed: *mut Handed,
         ) -> u32;
     }
 }
 
 /// n, C, T and the initial symbol, and the timescale; 0 or the refusal's number.
-pub(crate) fn judge(file: &[u8], answer: &mut [u32; 4], timescale: &mut i8) -> u32 {
-    // SAFETY: the slice's pointer and length are its own, the array has the four numbers that are
-    // written, and the two `&mut` are not aliased.
+pub(crate) fn judge(file: &[u8], summary: &mut c::Summary, timescale: &mut i8) -> u32 {
+    // SAFETY: the slice's pointer and length are its own, the struct has the layout of C's, and the two
+    // `&mut` are not aliased.
     unsafe {
         c::lxt_judge(
             file.as_ptr(),
             file.len(),
-            answer.as_mut_ptr(),
+            summary as *mut c::Summary,
             timescale as *mut i8,
         )
     }
@@ -148,16 +179,16 @@ pub(crate) fn change_before(file: &[u8], facility: u32, offset: u32, before: &mu
     }
 }
 
-/// The value at a time as three numbers, its symbols in the lent bits; 0 or the refusal's number.
+/// The value at a time, its symbols in the lent bits; 0 or the refusal's number.
 pub(crate) fn value_at(
     file: &[u8],
     facility: u32,
     time: u32,
     bits: &mut [u8],
-    answer: &mut [u64; 3],
+    value: &mut c::Value,
 ) -> u32 {
-    // SAFETY: the pointers and lengths of both slices are their own, the array has the three numbers
-    // that are written, and the two `&mut` are not aliased.
+    // SAFETY: the pointers and lengths of both slices are their own, the struct has the layout of C's,
+    // and the two `&mut` are not aliased.
     unsafe {
         c::lxt_value_at(
             file.as_ptr(),
@@ -166,7 +197,7 @@ pub(crate) fn value_at(
             time,
             bits.as_mut_ptr(),
             bits.len(),
-            answer.as_mut_ptr(),
+            value as *mut c::Value,
         )
     }
 }
@@ -175,36 +206,35 @@ pub(crate) fn value_at(
 pub(crate) fn facts(
     file: &[u8],
     facility: u32,
-    answer: &mut [u32; 2],
+    facts: &mut c::Facility,
     msb: &mut i32,
     lsb: &mut i32,
 ) -> u32 {
-    // SAFETY: the slice's pointer and length are its own, the array has the two numbers that are
-    // written, and the three `&mut` are not aliased.
+    // SAFETY: the slice's pointer and length are its own, the struct has the layout of C's, and the
+    // three `&mut` are not aliased.
     unsafe {
         c::lxt_facts(
             file.as_ptr(),
             file.len(),
             facility,
-            answer.as_mut_ptr(),
+            facts as *mut c::Facility,
             msb as *mut i32,
             lsb as *mut i32,
         )
     }
 }
 
-/// A change's time and its value as three numbers, its symbols in the lent bits; 0 or the refusal's
-/// number.
+/// A change's time and its value, its symbols in the lent bits; 0 or the refusal's number.
 pub(crate) fn change(
     file: &[u8],
     facility: u32,
     offset: u32,
     bits: &mut [u8],
     time: &mut u32,
-    answer: &mut [u64; 3],
+    value: &mut c::Value,
 ) -> u32 {
-    // SAFETY: the pointers and lengths of both slices are their own, the array has the three numbers
-    // that are written, and the three `&mut` are not aliased.
+    // SAFETY: the pointers and lengths of both slices are their own, the struct has the layout of C's,
+    // and the three `&mut` are not aliased.
     unsafe {
         c::lxt_change(
             file.as_ptr(),
@@ -214,7 +244,7 @@ pub(crate) fn change(
             bits.as_mut_ptr(),
             bits.len(),
             time as *mut u32,
-            answer.as_mut_ptr(),
+            value as *mut c::Value,
         )
     }
 }
@@ -242,10 +272,10 @@ pub(crate) fn carry_on(
     pairs: &mut [Pair],
     size: u32,
     output: &mut [u32],
-    answer: &mut [u32; 2],
+    handed: &mut c::Handed,
 ) -> u32 {
-    // SAFETY: the pointers and lengths of the three slices are their own, a pair has the layout of
-    // C's, the array has the two numbers that are written, and the three `&mut` are not aliased.
+    // SAFETY: the pointers and lengths of the three slices are their own, a pair and the struct have the
+    // layout of C's, and the three `&mut` are not aliased.
     unsafe {
         c::lxt_carry_on(
             file.as_ptr(),
@@ -255,7 +285,7 @@ pub(crate) fn carry_on(
             size,
             output.as_mut_ptr(),
             output.len(),
-            answer.as_mut_ptr(),
+            handed as *mut c::Handed,
         )
     }
 }

@@ -7,13 +7,17 @@
 //! use lxt::Trace;
 //!
 //! fn main() -> Result<(), Box<dyn std::error::Error>> {
-//!     let bytes = std::fs::read("../../traces/gpsim_onereg.lxt")?;
+//!     let bytes = std::fs::read("../../traces/gpsim_blink.lxt")?;
 //!     let trace = Trace::open(&bytes)?;
-//!     println!("{} facilities", trace.summary().facilities);
+//!     let mut changes = vec![0; trace.facilities().len()];
 //!     for change in trace.walk_all()? {
-//!         let name = trace.name(change.facility)?;
-//!         let (time, value) = trace.change(change.facility, change.offset)?;
-//!         println!("{time} {} {value:?}", name.escape_ascii());
+//!         changes[change.facility as usize] += 1;
+//!     }
+//!     for facility in trace.facilities() {
+//!         let name = trace.name(facility)?;
+//!         let value = trace.value_at(facility, 100)?;
+//!         let changes = changes[facility as usize];
+//!         println!("{} {value} {changes} changes", name.escape_ascii());
 //!     }
 //!     Ok(())
 //! }
@@ -23,19 +27,21 @@
 //! [`root`], [`name`], [`change_before`], [`change`], [`value_at`], [`start_walk`] and [`carry_on`]. They take
 //! any bytes, keep nothing between calls and allocate nothing. Each judges the file anew, whatever was asked
 //! before; only `carry_on` checks less of it, its tables and the changes that are still to come. So many
-//! questions on one large file cost many times its judging, as docs/PERFORMANCE.md has it in figures.
+//! questions on one large file cost many times its judging, as docs/PERFORMANCE.md has it in figures: to
+//! read all changes of a large trace, walk, and do not ask for each of them.
 //!
-//! All changes of a trace in batches of 64, by these functions:
+//! All changes of a trace by these functions. A call of a walk reads again what is still to come, so
+//! the output has room for many:
 //!
 //! ```
 //! let file: &[u8] = include_bytes!("../../../traces/gpsim_blink.lxt");
 //! let n = lxt::judge(file)?.facilities as usize;
 //! let mut pairs = vec![lxt::Pair::default(); n];
 //! lxt::start_walk(file, &vec![1; n], &mut pairs)?;
-//! let mut output = [0; 2 * 64];
+//! let mut output = vec![0; 2 * 65_536];
 //! let mut changes = 0;
 //! loop {
-//!     let (count, done) = lxt::carry_on(file, &mut pairs, 64, &mut output)?;
+//!     let (count, done) = lxt::carry_on(file, &mut pairs, 65_536, &mut output)?;
 //!     for change in output[..2 * count as usize].chunks(2) {
 //!         println!("facility {} changes at offset {}", change[0], change[1]);
 //!     }
@@ -58,10 +64,12 @@ mod trace;
 pub use refusal::Refusal;
 pub use trace::{Change, Reading, Trace, Walk};
 
+use ffi::c;
 use refusal::accepted;
 
 /// What judging answers of an accepted file.
 #[derive(Clone, Copy, Debug, PartialEq, Eq)]
+#[non_exhaustive]
 pub struct Summary {
     /// n, the number of facilities.
     pub facilities: u32,
@@ -69,6 +77,8 @@ pub struct Summary {
     pub changes: u32,
     /// T, where the sections end.
     pub end: u32,
+    /// One unit of time is ten to this power seconds: -9 is nanoseconds, which also stands where the file
+    /// has no timescale or one outside -21 to 2.
     pub timescale: i8,
     /// The code of the initial symbol, 0 to 8: `0 1 Z X H U W L -`.
     pub initial: u8,
@@ -76,6 +86,7 @@ pub struct Summary {
 
 /// The kind of a facility.
 #[derive(Clone, Copy, Debug, PartialEq, Eq)]
+#[non_exhaustive]
 pub enum Kind {
     Bits,
     Integer,
@@ -85,16 +96,20 @@ pub enum Kind {
 
 /// The facts of a facility.
 #[derive(Clone, Copy, Debug, PartialEq, Eq)]
+#[non_exhaustive]
 pub struct Facts {
     /// The number of symbols of a value; 0 for reals and texts.
     pub width: u32,
+    /// The number of the first symbol: of bits as the file has it, 31 of an integer, 0 of the others.
     pub msb: i32,
+    /// The number of the last symbol: of bits as the file has it, else 0.
     pub lsb: i32,
     pub kind: Kind,
 }
 
 /// The value of a facility.
 #[derive(Clone, Copy, Debug, PartialEq)]
+#[non_exhaustive]
 pub enum Value {
     /// The symbols `0 1 Z X H U W L -`, which stand in the first `width` bytes of the lent bits.
     Bits { width: u32 },
@@ -107,20 +122,18 @@ pub enum Value {
 }
 
 impl Value {
-    /// The value of three numbers: 0 and the width; 1 and a real's bits; 2, a text's start and its
-    /// length; 3, not driven.
-    fn of_numbers(numbers: [u64; 3]) -> Value {
-        match numbers[0] {
+    fn of(value: c::Value) -> Value {
+        match value.what {
             0 => Value::Bits {
-                width: numbers[1] as u32,
+                width: value.number as u32,
             },
             1 => Value::Real {
-                number: f64::from_bits(numbers[1]),
-                bits: numbers[1],
+                number: f64::from_bits(value.number),
+                bits: value.number,
             },
             2 => Value::Text {
-                start: numbers[1] as u32,
-                length: numbers[2] as u32,
+                start: value.number as u32,
+                length: value.length as u32,
             },
             _ => Value::NotDriven,
         }
@@ -139,15 +152,15 @@ pub struct Pair {
 
 /// Judges a file: any bytes are accepted exactly when the rules say so, or refused by number.
 pub fn judge(file: &[u8]) -> Result<Summary, Refusal> {
-    let mut answer = [0; 4];
+    let mut summary = c::Summary::default();
     let mut timescale = 0;
-    accepted(ffi::judge(file, &mut answer, &mut timescale))?;
+    accepted(ffi::judge(file, &mut summary, &mut timescale))?;
     Ok(Summary {
-        facilities: answer[0],
-        changes: answer[1],
-        end: answer[2],
+        facilities: summary.facilities,
+        changes: summary.changes,
+        end: summary.end,
         timescale,
-        initial: answer[3] as u8,
+        initial: summary.initial as u8,
     })
 }
 
@@ -162,17 +175,17 @@ pub const WIDEST: usize = 4_096;
 /// This and every other question judges the file first, so that it may be asked of any bytes; only
 /// [`carry_on`] judges less of it.
 pub fn facts(file: &[u8], facility: u32) -> Result<Facts, Refusal> {
-    let mut answer = [0; 2];
+    let mut facts = c::Facility::default();
     let (mut msb, mut lsb) = (0, 0);
-    accepted(ffi::facts(file, facility, &mut answer, &mut msb, &mut lsb))?;
-    let kind = match answer[1] {
+    accepted(ffi::facts(file, facility, &mut facts, &mut msb, &mut lsb))?;
+    let kind = match facts.kind {
         0 => Kind::Bits,
         1 => Kind::Integer,
         2 => Kind::Real,
         _ => Kind::Text,
     };
     Ok(Facts {
-        width: answer[0],
+        width: facts.width,
         msb,
         lsb,
         kind,
@@ -204,7 +217,8 @@ pub fn change_before(file: &[u8], facility: u32, offset: u32) -> Result<u32, Ref
 
 /// The time and the value of the change at `offset`.
 ///
-/// Bits and integers need as many lent bytes as they are wide; other bytes stay.
+/// This judges the whole file, as every question does: it is for some changes, not for all of a large
+/// trace. Bits and integers need as many lent bytes as they are wide; other bytes stay.
 pub fn change(
     file: &[u8],
     facility: u32,
@@ -212,25 +226,20 @@ pub fn change(
     bits: &mut [u8],
 ) -> Result<(u32, Value), Refusal> {
     let mut time = 0;
-    let mut answer = [0; 3];
+    let mut value = c::Value::default();
     accepted(ffi::change(
-        file,
-        facility,
-        offset,
-        bits,
-        &mut time,
-        &mut answer,
+        file, facility, offset, bits, &mut time, &mut value,
     ))?;
-    Ok((time, Value::of_numbers(answer)))
+    Ok((time, Value::of(value)))
 }
 
 /// The value of a facility at a time.
 ///
 /// Bits and integers need as many lent bytes as they are wide; other bytes stay.
 pub fn value_at(file: &[u8], facility: u32, time: u32, bits: &mut [u8]) -> Result<Value, Refusal> {
-    let mut answer = [0; 3];
-    accepted(ffi::value_at(file, facility, time, bits, &mut answer))?;
-    Ok(Value::of_numbers(answer))
+    let mut value = c::Value::default();
+    accepted(ffi::value_at(file, facility, time, bits, &mut value))?;
+    Ok(Value::of(value))
 }
 
 /// Starts a walk over the changes of the facilities whose asked byte is not 0; an alias asks for its
@@ -254,7 +263,7 @@ pub fn carry_on(
     size: u32,
     output: &mut [u32],
 ) -> Result<(u32, bool), Refusal> {
-    let mut answer = [0; 2];
-    accepted(ffi::carry_on(file, pairs, size, output, &mut answer))?;
-    Ok((answer[0], answer[1] != 0))
+    let mut handed = c::Handed::default();
+    accepted(ffi::carry_on(file, pairs, size, output, &mut handed))?;
+    Ok((handed.count, handed.done != 0))
 }

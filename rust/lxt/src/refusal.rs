@@ -8,9 +8,11 @@ macro_rules! refusals {
         /// Why a call was refused: the first rule that the file or the question breaks, in the order of the
         /// numbers. A refused call has changed nothing that was lent to it.
         ///
-        /// 1 to 17 are about the file, the others about the question.
+        /// 1 to 17 are about the file, the others about the question. The rules behind them, with an example
+        /// of each, are in docs/FORMAT.md.
         #[derive(Clone, Copy, Debug, PartialEq, Eq, Hash, PartialOrd, Ord)]
         #[repr(u8)]
+        #[non_exhaustive]
         pub enum Refusal {
             $(
                 #[doc = concat!(stringify!($number), ": ", $words, ".")]
@@ -20,7 +22,7 @@ macro_rules! refusals {
 
         impl Refusal {
             /// All refusals, by number.
-            pub const ALL: [Refusal; 22] = [$(Refusal::$name),*];
+            pub const ALL: &'static [Refusal] = &[$(Refusal::$name),*];
 
             /// The case in words.
             pub fn words(self) -> &'static str {
@@ -33,28 +35,28 @@ macro_rules! refusals {
 }
 
 refusals! {
-    1 Length "length outside the limits, 6 to 16,777,216 bytes"
-    2 FirstBytes "first bytes or version"
-    3 LastByte "last byte not B4"
-    4 SectionList "before END, a tag or its value would start below offset 4"
-    5 Compressed "counting tag 0A to 12 not 0: compressed data"
-    6 LongTimes "counting tag 09 not 0: 64-bit times"
-    7 Absent "01, 02, 03, 04 or 06 absent"
-    8 Place "one of 02 to 07 that is present starts below 4, or its body (of 03 only the 8-byte head) passes T, or C is outside 4 to T"
-    9 TooManyFacilities "n above 4,096"
-    10 Names "prefix bytes not all before T, prefix longer than the name before, no zero before T, name too long, or M too small"
-    11 Geometry "rows, flags or width"
-    12 Alias "alias target or cycle"
-    13 Times "a time rule broken"
-    14 RealTest "a real facility, and 08 absent, out of bounds or wrong"
-    15 ChangePlace "a change starts outside C to T - 1, passes T, or has a previous offset below 0 or from 1 to C - 1"
-    16 ChangeBytes "a change's command byte or data"
-    17 SharedByte "two changes, of one root or two, share a byte; one offset reached from two roots counts as two changes"
-    18 NoFacility "facility number not below n"
-    19 NoChange "offset is not on that root's chain"
-    20 Record "a pair has a wrong number, or a pending offset not 0 of an alias or whose chain downwards breaks a rule of 15 or 16"
-    21 Room "too little room: names 1,023, bits the width, pairs n, output 2s"
-    22 Asked "asked bytes not n long"
+    1 Length "the file has fewer than 6 or more than 16,777,216 bytes"
+    2 FirstBytes "the first bytes are not 01 38 and a version from 0 to 4"
+    3 LastByte "the last byte is not B4"
+    4 SectionList "the section list runs below offset 4 before its END tag"
+    5 Compressed "a section is compressed (tags 0A to 12), which is not read here"
+    6 LongTimes "the times section has 64-bit times (tag 09), which are not read here"
+    7 Absent "the changes, sync, names, geometry or times section (tags 01, 02, 03, 04, 06) is absent"
+    8 Place "the changes start outside offset 4 to END, or the sync, names, geometry, timescale, times or initial value section does not lie there"
+    9 TooManyFacilities "the names section counts more than 4,096 facilities"
+    10 Names "in the names section a name passes END, takes more than the name before has or is longer than 1,023 bytes, or all need more than the stated memory"
+    11 Geometry "in the geometry section the rows, flags or width of a facility are not allowed"
+    12 Alias "in the geometry section an alias leads to no facility, or in a circle"
+    13 Times "in the times section positions or times are out of order or out of bounds, or there is no entry although there are changes"
+    14 RealTest "there is a real facility, and the real test section (tag 08) is absent, out of bounds or no reordering of 3.14159"
+    15 ChangePlace "a change starts outside the changes section, passes END, or leads back to an offset that is neither 0 nor in that section"
+    16 ChangeBytes "a change has a command byte or data that its facility does not allow"
+    17 SharedByte "two changes share a byte, or two facilities that are no aliases share a change"
+    18 NoFacility "there is no facility of that number"
+    19 NoChange "the facility has no change at that offset"
+    20 Record "in the walk's record a pair has a wrong number, or a pending offset that is an alias's or from which the changes downwards break a rule of 15 or 16"
+    21 Room "too little room was lent: names need 1,023 bytes, bits the width, a record a pair for each facility, an output two numbers for each change"
+    22 Asked "the asked bytes are not one for each facility"
 }
 
 impl Refusal {
@@ -100,9 +102,9 @@ mod tests {
 
     #[test]
     fn the_numbers_are_1_to_22() {
-        let numbers = Refusal::ALL.map(Refusal::number);
-        assert_eq!(Vec::from(numbers), Vec::from_iter(1..=22));
-        for refusal in Refusal::ALL {
+        let numbers = Refusal::ALL.iter().map(|it| it.number());
+        assert_eq!(Vec::from_iter(numbers), Vec::from_iter(1..=22));
+        for &refusal in Refusal::ALL {
             assert_eq!(Refusal::of_number(refusal.number()), Some(refusal));
             assert_eq!(accepted(refusal.number().into()), Err(refusal));
             assert_eq!(refusal.is_of_file(), refusal <= Refusal::SharedByte);
@@ -115,7 +117,10 @@ mod tests {
 
     #[test]
     fn a_refusal_shows_its_number_and_words() {
-        assert_eq!(Refusal::LastByte.to_string(), "refused 3: last byte not B4");
+        assert_eq!(
+            Refusal::LastByte.to_string(),
+            "refused 3: the last byte is not B4"
+        );
         for refusal in Refusal::ALL {
             let shown = format!("refused {}: {}", refusal.number(), refusal.words());
             assert_eq!(refusal.to_string(), shown);

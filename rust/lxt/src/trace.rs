@@ -1,5 +1,6 @@
 //! A trace to ask, and its walk as an iterator.
 
+use std::fmt;
 use std::iter::FusedIterator;
 use std::ops::Range;
 
@@ -14,7 +15,7 @@ use crate::{Facts, Pair, Refusal, Summary, Value, NAME_ROOM, WIDEST};
 /// vectors that are answered are on the heap.
 ///
 /// ```
-/// use lxt::{Reading, Trace};
+/// use lxt::Trace;
 ///
 /// fn main() -> Result<(), Box<dyn std::error::Error>> {
 ///     let bytes = std::fs::read("../../traces/gpsim_blink.lxt")?;
@@ -23,9 +24,7 @@ use crate::{Facts, Pair, Refusal, Summary, Value, NAME_ROOM, WIDEST};
 ///         let name = trace.name(facility)?;
 ///         let facts = trace.facts(facility)?;
 ///         println!("{} {:?} {}", name.escape_ascii(), facts.kind, facts.width);
-///         if let Reading::Bits(symbols) = trace.value_at(facility, 100)? {
-///             println!("  at 100: {}", symbols.escape_ascii());
-///         }
+///         println!("  at 100: {}", trace.value_at(facility, 100)?);
 ///     }
 ///     Ok(())
 /// }
@@ -37,7 +36,19 @@ pub struct Trace<'a> {
 }
 
 /// The value of a facility, by itself.
+///
+/// Shown, it is the symbols, the real's number (`3.5`, `inf`, `NaN`), the text in quotes with escapes for
+/// all that is not printable ASCII, or `not driven`; so it holds no line feed and no terminal escape.
+///
+/// ```
+/// use lxt::Reading;
+/// assert_eq!(Reading::Bits(b"01ZX".to_vec()).to_string(), "01ZX");
+/// assert_eq!(Reading::Real(3.5).to_string(), "3.5");
+/// assert_eq!(Reading::Text(b"two\nlines").to_string(), r#""two\nlines""#);
+/// assert_eq!(Reading::NotDriven.to_string(), "not driven");
+/// ```
 #[derive(Clone, Debug, PartialEq)]
+#[non_exhaustive]
 pub enum Reading<'a> {
     /// The symbols of bits or an integer, in ASCII: `0 1 Z X H U W L -`.
     Bits(Vec<u8>),
@@ -46,6 +57,17 @@ pub enum Reading<'a> {
     Text(&'a [u8]),
     /// A real or a text that has no change up to the time.
     NotDriven,
+}
+
+impl fmt::Display for Reading<'_> {
+    fn fmt(&self, formatter: &mut fmt::Formatter<'_>) -> fmt::Result {
+        match self {
+            Reading::Bits(symbols) => formatter.pad(&symbols.escape_ascii().to_string()),
+            Reading::Real(number) => number.fmt(formatter),
+            Reading::Text(text) => formatter.pad(&format!("\"{}\"", text.escape_ascii())),
+            Reading::NotDriven => formatter.pad("not driven"),
+        }
+    }
 }
 
 /// A change that a walk hands out.
@@ -169,8 +191,12 @@ impl<'a> Trace<'a> {
     /// its own number.
     ///
     /// The changes are fetched in batches, each by one call. That checks the file's tables and all changes that
-    /// are still to come, so few large batches are faster than many small ones: see
-    /// [`in_batches_of`](Walk::in_batches_of).
+    /// are still to come, so few large batches are faster than many small ones. The first has
+    /// [`Walk::BATCH`] changes and each further one twice as many, up to [`Walk::LARGEST_BATCH`];
+    /// [`in_batches_of`](Walk::in_batches_of) sets another size.
+    ///
+    /// A change is where it stands; its time and value are a [question](Trace::change), and that
+    /// judges the whole file. So ask for the changes that matter, and not for all of a large trace.
     ///
     /// ```
     /// use lxt::Trace;
@@ -180,9 +206,9 @@ impl<'a> Trace<'a> {
     ///     let trace = Trace::open(&bytes)?;
     ///     let mut asked = vec![false; trace.facilities().len()];
     ///     asked[0] = true;
-    ///     for change in trace.walk(&asked)? {
+    ///     for change in trace.walk(&asked)?.take(3) {
     ///         let (time, value) = trace.change(change.facility, change.offset)?;
-    ///         println!("{} at {time}: {value:?}", change.facility);
+    ///         println!("{} at {time}: {value}", change.facility);
     ///     }
     ///     assert_eq!(trace.walk_all()?.count(), 298);
     ///     Ok(())
@@ -193,6 +219,7 @@ impl<'a> Trace<'a> {
             bytes: self.bytes,
             record: self.start_walk(asked)?,
             batch: Walk::BATCH,
+            largest: Walk::LARGEST_BATCH,
             output: Vec::new(),
             next: 0,
             count: 0,
@@ -224,7 +251,9 @@ impl<'a> Trace<'a> {
 pub struct Walk<'a> {
     bytes: &'a [u8],
     record: Vec<Pair>,
+    /// How many changes the next call fetches, and how many any call may.
     batch: u32,
+    largest: u32,
     /// Two numbers for each change of a batch.
     output: Vec<u32>,
     /// The next change of the batch, and how many it has.
@@ -235,8 +264,11 @@ pub struct Walk<'a> {
 }
 
 impl Walk<'_> {
-    /// How many changes a call fetches where nothing else was asked for.
-    pub const BATCH: u32 = 64;
+    /// How many changes the first call fetches where nothing else was asked for.
+    pub const BATCH: u32 = 1_024;
+
+    /// How many changes a call fetches at most where nothing else was asked for: 8 MiB.
+    pub const LARGEST_BATCH: u32 = 1_048_576;
 
     /// The same walk, with up to so many changes in each further call; 0 counts as 1. A batch takes 8 bytes
     /// of memory for each change.
@@ -246,6 +278,7 @@ impl Walk<'_> {
     /// checks each once, and takes at most four times as much memory as the file.
     pub fn in_batches_of(mut self, size: u32) -> Self {
         self.batch = size.max(1);
+        self.largest = self.batch;
         self
     }
 
@@ -261,6 +294,7 @@ impl Walk<'_> {
         self.next = 0;
         self.count = count as usize;
         self.done = done;
+        self.batch = self.batch.saturating_mul(2).min(self.largest);
     }
 }
 
@@ -284,3 +318,44 @@ impl Iterator for Walk<'_> {
 }
 
 impl FusedIterator for Walk<'_> {}
+
+#[cfg(test)]
+mod tests {
+    use super::{Change, Trace, Walk};
+
+    /// The sizes of a walk's batches, and its changes.
+    fn batches(mut walk: Walk) -> (Vec<usize>, Vec<Change>) {
+        let (mut sizes, mut changes) = (Vec::new(), Vec::new());
+        while let Some(change) = walk.next() {
+            if walk.next == 1 {
+                sizes.push(walk.count);
+            }
+            changes.push(change);
+        }
+        (sizes, changes)
+    }
+
+    #[test]
+    fn batches_double_up_to_the_largest() {
+        let bytes = include_bytes!("../../../traces/des.vcd2lxt-plain.unz.lxt");
+        let trace = Trace::open(bytes).expect("a trace");
+        let walk = trace.walk_all().expect("a walk");
+        let (sizes, changes) = batches(walk.clone());
+        let first = Walk::BATCH as usize;
+        let doubled = (0..sizes.len() - 1).map(|place| first << place);
+        assert_eq!(sizes[..sizes.len() - 1], Vec::from_iter(doubled));
+        assert_eq!(sizes.len(), 8);
+
+        // The same changes in one call, in calls of one size, and where the largest is soon reached.
+        let (one, expected) = batches(walk.clone().in_batches_of(u32::MAX));
+        assert_eq!((one, &changes), (vec![changes.len()], &expected));
+        let (even, expected) = batches(walk.clone().in_batches_of(50_000));
+        assert_eq!(even, [50_000, 50_000, 50_000, changes.len() - 150_000]);
+        assert_eq!(changes, expected);
+        let mut bounded = walk;
+        bounded.largest = 3_000;
+        let (sizes, expected) = batches(bounded);
+        assert_eq!(sizes[..4], [first, 2 * first, 3_000, 3_000]);
+        assert_eq!(changes, expected);
+    }
+}

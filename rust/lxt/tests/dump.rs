@@ -108,4 +108,5 @@ fn prints_what_the_independent_reader_prints_of_hostile_files() {
         compare(&case.bytes, &case.origin, &mut seen);
     }
     println!("{seen:?}");
+    assert!(seen.values().sum::<u32>() >= 140, "{seen:?}");
 }

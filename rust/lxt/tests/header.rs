@@ -1,10 +1,12 @@
-//! The header and its example, in a C program that the machine's C compiler makes of them, against the
+//! The header and its example, in C programs that the machine's C compiler makes of them, against the
 //! independent reader. Rust's linker is that compiler, so it is there.
 
+use std::collections::BTreeSet;
 use std::fmt::Write;
 use std::path::{Path, PathBuf};
 use std::process::Command;
 
+use lxt_compare::judge::TRACE;
 use lxt_compare::traces;
 use lxt_reference::{Judged, Value};
 
@@ -44,55 +46,78 @@ EXAMPLE
     printf("walked %lu\n", (unsigned long)refused);
 }
 
-static uint8_t names[1023], bits[4096];
+static uint8_t names[LXT_LONGEST_NAME], bits[LXT_WIDEST];
 
-static void show(const uint64_t *answer) {
-    printf("%llu %llu %llu", (unsigned long long)answer[0], (unsigned long long)answer[1],
-           (unsigned long long)answer[2]);
-    if (answer[0] == 0) printf(" %.*s", (int)answer[1], (const char *)bits);
-    printf("\n");
+static void show(const lxt_value *value) {
+    switch (value->what) {
+    case LXT_IS_BITS:
+        printf("bits %llu %.*s", (unsigned long long)value->number, (int)value->number, (const char *)bits);
+        break;
+    case LXT_IS_REAL:
+        printf("real %llu", (unsigned long long)value->number);
+        break;
+    case LXT_IS_TEXT:
+        printf("text %llu", (unsigned long long)value->number);
+        break;
+    case LXT_NOT_DRIVEN:
+        printf("not driven %llu", (unsigned long long)value->number);
+        break;
+    }
+    printf(" %llu\n", (unsigned long long)value->length);
+}
+
+static const char *kind(uint32_t kind) {
+    switch (kind) {
+    case LXT_BITS: return "bits";
+    case LXT_INTEGER: return "integer";
+    case LXT_REAL: return "real";
+    case LXT_TEXT: return "text";
+    }
+    return "nothing";
 }
 
 int main(int count, char **words) {
     FILE *input = count > 1 ? fopen(words[1], "rb") : NULL;
     uint8_t *file = malloc(2000000);
-    uint32_t summary[4], n, f;
+    lxt_summary summary;
+    uint32_t n, f;
     int8_t timescale;
     size_t length;
     if (input == NULL || file == NULL) return 2;
     length = fread(file, 1, 2000000, input);
-    n = lxt_judge(file, length, summary, &timescale);
+    n = lxt_judge(file, length, &summary, &timescale);
     if (n != 0) {
         printf("refused %lu\n", (unsigned long)n);
         return 0;
     }
-    n = summary[0];
-    printf("%lu %lu %lu %lu %d\n", (unsigned long)n, (unsigned long)summary[1],
-           (unsigned long)summary[2], (unsigned long)summary[3], timescale);
+    n = summary.facilities;
+    printf("%lu %lu %lu %c %d\n", (unsigned long)n, (unsigned long)summary.changes,
+           (unsigned long)summary.end, LXT_SYMBOLS[summary.initial], timescale);
     for (f = 0; f <= n && f < 40; f++) {
-        uint32_t facts[2], root, size, before, time, newest = 0;
-        uint64_t answer[3];
+        uint32_t root, size, before, time, newest = 0;
+        lxt_facility facts;
+        lxt_value value;
         int32_t msb, lsb;
-        lxt_pair pair[4096];
-        uint8_t asked[4096] = {0};
-        if (lxt_facts(file, length, f, facts, &msb, &lsb) != 0) {
+        lxt_pair pair[LXT_MOST_FACILITIES];
+        uint8_t asked[LXT_MOST_FACILITIES] = {0};
+        if (lxt_facts(file, length, f, &facts, &msb, &lsb) == LXT_REFUSED_NO_FACILITY) {
             printf("%lu refused\n", (unsigned long)f);
             continue;
         }
         lxt_root(file, length, f, &root);
         lxt_name(file, length, f, names, sizeof names, &size);
-        printf("%lu %lu %ld %ld %lu %.*s\n", (unsigned long)facts[0], (unsigned long)facts[1],
+        printf("%lu %s %ld %ld %lu %.*s\n", (unsigned long)facts.width, kind(facts.kind),
                (long)msb, (long)lsb, (unsigned long)root, (int)size, (const char *)names);
         asked[f] = 1;
-        lxt_start_walk(file, length, asked, n, pair, 4096);
+        lxt_start_walk(file, length, asked, n, pair, n);
         newest = pair[root].offset;
         if (lxt_change_before(file, length, f, newest, &before) == 0) {
-            lxt_change(file, length, f, newest, bits, sizeof bits, &time, answer);
+            lxt_change(file, length, f, newest, bits, sizeof bits, &time, &value);
             printf("%lu %lu ", (unsigned long)before, (unsigned long)time);
-            show(answer);
+            show(&value);
         }
-        lxt_value_at(file, length, f, 50, bits, sizeof bits, answer);
-        show(answer);
+        lxt_value_at(file, length, f, 50, bits, sizeof bits, &value);
+        show(&value);
     }
     walk(file, length, n);
     return 0;
@@ -103,11 +128,11 @@ fn show(out: &mut String, value: Value, bits: &[u8]) {
     let line = match value {
         Value::Bits { width } => {
             let symbols = String::from_utf8_lossy(&bits[..width as usize]);
-            writeln!(out, "0 {width} 0 {symbols}")
+            writeln!(out, "bits {width} {symbols} 0")
         }
-        Value::Real { bits } => writeln!(out, "1 {bits} 0"),
-        Value::Text { start, length } => writeln!(out, "2 {start} {length}"),
-        Value::NotDriven => writeln!(out, "3 0 0"),
+        Value::Real { bits } => writeln!(out, "real {bits} 0"),
+        Value::Text { start, length } => writeln!(out, "text {start} {length}"),
+        Value::NotDriven => writeln!(out, "not driven 0 0"),
     };
     line.expect("a line");
 }
@@ -120,10 +145,8 @@ fn expected(file: &[u8]) -> String {
     };
     let (it, mut bits) = (judged.summary(), vec![0; 4_096]);
     let n = it.facilities;
-    let mut out = format!(
-        "{n} {} {} {} {}\n",
-        it.changes, it.end, it.initial, it.timescale
-    );
+    let initial = char::from(b"01ZXHUWL-"[usize::from(it.initial)]);
+    let mut out = format!("{n} {} {} {initial} {}\n", it.changes, it.end, it.timescale);
     for facility in (0..=n).take(40) {
         let Ok(facts) = judged.facts(facility) else {
             out += &format!("{facility} refused\n");
@@ -131,7 +154,8 @@ fn expected(file: &[u8]) -> String {
         };
         let root = judged.root(facility).expect("a root");
         let name = String::from_utf8_lossy(judged.name_of(facility));
-        let (kind, msb, lsb) = (facts.kind as u32, facts.msb, facts.lsb);
+        let kind = format!("{:?}", facts.kind).to_lowercase();
+        let (msb, lsb) = (facts.msb, facts.lsb);
         out += &format!("{} {kind} {msb} {lsb} {root} {name}\n", facts.width);
         if let Some(newest) = judged.chains()[root as usize].first() {
             let before = judged.change_before(facility, *newest).expect("a change");
@@ -149,28 +173,23 @@ fn expected(file: &[u8]) -> String {
     out + "walked 0\n"
 }
 
-#[test]
-fn a_c_program_answers_as_the_independent_reader() {
-    let above = Path::new(env!("CARGO_MANIFEST_DIR")).join("../..");
-    let header = include_str!("../../../include/lxt.h");
+fn repository() -> PathBuf {
+    Path::new(env!("CARGO_MANIFEST_DIR")).join("../..")
+}
+
+/// Makes a program of a source with the header and the archive.
+fn made(name: &str, compiler: &str, standard: &str, code: &str) -> PathBuf {
     let folder = PathBuf::from(env!("CARGO_TARGET_TMPDIR"));
-    let source = folder.join("header.c");
-    let program = folder.join("header");
-    let code = PROGRAM.replace("EXAMPLE\n", &example(header));
+    let extension = if compiler == "c++" { "cpp" } else { "c" };
+    let source = folder.join(name).with_extension(extension);
+    let program = folder.join(name);
     std::fs::write(&source, code).expect("a place for the program");
-    let made = Command::new("cc")
-        .args([
-            "-std=c99",
-            "-Wall",
-            "-Wextra",
-            "-Wpedantic",
-            "-Werror",
-            "-O1",
-        ])
+    let made = Command::new(compiler)
+        .args([standard, "-Wall", "-Wextra", "-Wpedantic", "-Werror", "-O1"])
         .arg("-I")
-        .arg(above.join("include"))
+        .arg(repository().join("include"))
         .arg(&source)
-        .arg(above.join("target/staticlib/liblxt_c.a"))
+        .arg(repository().join("target/staticlib/liblxt_c.a"))
         .arg("-o")
         .arg(&program)
         .output()
@@ -180,10 +199,17 @@ fn a_c_program_answers_as_the_independent_reader() {
         "{}",
         String::from_utf8_lossy(&made.stderr)
     );
+    program
+}
 
+#[test]
+fn a_c_program_answers_as_the_independent_reader() {
+    let header = include_str!("../../../include/lxt.h");
+    let code = PROGRAM.replace("EXAMPLE\n", &example(header));
+    let program = made("header", "cc", "-std=c99", &code);
     let mut compared = 0;
     for (name, file) in traces(100_000) {
-        let path = above.join("traces").join(&name);
+        let path = repository().join("traces").join(&name);
         let ran = Command::new(&program).arg(path).output().expect("a run");
         assert!(ran.status.success(), "{name}: {:?}", ran.status);
         assert_eq!(
@@ -194,4 +220,153 @@ fn a_c_program_answers_as_the_independent_reader() {
         compared += 1;
     }
     assert!(compared >= 20, "{compared}");
+}
+
+/// The structs are the numbers that the functions write, in their order, and the constants the limits.
+const LAYOUT: &str = r#"
+#include "lxt.h"
+#ifdef __cplusplus
+#define ASSERT(that) static_assert(that, #that)
+#else
+#define ASSERT(that) _Static_assert(that, #that)
+#endif
+#define FIELD(of, name, at, size) \
+    ASSERT(offsetof(of, name) == at); \
+    ASSERT(sizeof(((of *)0)->name) == size)
+ASSERT(sizeof(lxt_summary) == 4 * sizeof(uint32_t));
+FIELD(lxt_summary, facilities, 0, 4);
+FIELD(lxt_summary, changes, 4, 4);
+FIELD(lxt_summary, end, 8, 4);
+FIELD(lxt_summary, initial, 12, 4);
+ASSERT(sizeof(lxt_facility) == 2 * sizeof(uint32_t));
+FIELD(lxt_facility, width, 0, 4);
+FIELD(lxt_facility, kind, 4, 4);
+ASSERT(sizeof(lxt_value) == 3 * sizeof(uint64_t));
+FIELD(lxt_value, what, 0, 8);
+FIELD(lxt_value, number, 8, 8);
+FIELD(lxt_value, length, 16, 8);
+ASSERT(sizeof(lxt_handed) == 2 * sizeof(uint32_t));
+FIELD(lxt_handed, count, 0, 4);
+FIELD(lxt_handed, done, 4, 4);
+ASSERT(sizeof(lxt_pair) == 2 * sizeof(uint32_t));
+FIELD(lxt_pair, number, 0, 4);
+FIELD(lxt_pair, offset, 4, 4);
+ASSERT(LXT_SHORTEST_FILE == 6 && LXT_LONGEST_FILE == 16777216);
+ASSERT(LXT_MOST_FACILITIES == 4096 && LXT_LONGEST_NAME == 1023 && LXT_WIDEST == 4096);
+ASSERT(sizeof(LXT_SYMBOLS) == 9 + 1);
+
+int main(void) {
+    static const uint8_t file[7] = {0};
+    lxt_summary summary;
+    int8_t timescale;
+    /* Seven bytes of a wrong start: a call is linked and answers. */
+    return lxt_judge(file, sizeof file, &summary, &timescale) == LXT_REFUSED_FIRST_BYTES ? 0 : 1;
+}
+"#;
+
+#[test]
+fn structs_and_constants_are_as_documented_in_c_and_cpp() {
+    for (name, compiler, standard) in [
+        ("layout_c11", "cc", "-std=c11"),
+        ("layout_cpp", "c++", "-std=c++11"),
+    ] {
+        if compiler == "c++" && Command::new(compiler).arg("--version").output().is_err() {
+            println!("skipped: there is no C++ compiler");
+            continue;
+        }
+        let program = made(name, compiler, standard, LAYOUT);
+        let ran = Command::new(&program).status().expect("a run");
+        assert!(ran.success(), "{name}: {ran:?}");
+    }
+}
+
+/// Every pointer that has a length beside it is null, with a length of 0. Prints each answer.
+const NULLS: &str = r#"
+#include "lxt.h"
+#include <stdio.h>
+
+static uint8_t file[4096];
+
+static void all(const uint8_t *file, size_t length) {
+    lxt_summary summary;
+    lxt_facility facts;
+    lxt_value value;
+    lxt_handed handed;
+    int8_t timescale;
+    int32_t msb, lsb;
+    uint32_t one;
+    lxt_pair pair = {0, 0};
+    uint8_t asked = 1;
+    printf("%d", (int)lxt_judge(file, length, &summary, &timescale));
+    printf(" %d", (int)lxt_facts(file, length, 0, &facts, &msb, &lsb));
+    printf(" %d", (int)lxt_root(file, length, 0, &one));
+    printf(" %d", (int)lxt_name(file, length, 0, NULL, 0, &one));
+    printf(" %d", (int)lxt_change_before(file, length, 0, 6, &one));
+    printf(" %d", (int)lxt_change(file, length, 0, 6, NULL, 0, &one, &value));
+    printf(" %d", (int)lxt_value_at(file, length, 0, 9, NULL, 0, &value));
+    printf(" %d", (int)lxt_start_walk(file, length, NULL, 0, NULL, 0));
+    printf(" %d", (int)lxt_start_walk(file, length, NULL, 0, &pair, 1));
+    printf(" %d", (int)lxt_start_walk(file, length, &asked, 1, NULL, 0));
+    printf(" %d", (int)lxt_carry_on(file, length, NULL, 0, 0, NULL, 0, &handed));
+    printf(" %d", (int)lxt_carry_on(file, length, &pair, 1, 0, NULL, 0, &handed));
+    printf(" %d\n", (int)lxt_carry_on(file, length, &pair, 1, 1, NULL, 0, &handed));
+}
+
+int main(int count, char **words) {
+    int i;
+    all(NULL, 0);
+    for (i = 1; i < count; i++) {
+        FILE *input = fopen(words[i], "rb");
+        size_t length;
+        if (input == NULL) return 2;
+        length = fread(file, 1, sizeof file, input);
+        fclose(input);
+        all(file, length);
+    }
+    return 0;
+}
+"#;
+
+#[test]
+fn a_null_pointer_with_length_0_is_an_empty_slice() {
+    let program = made("nulls", "cc", "-std=c99", NULLS);
+    let folder = PathBuf::from(env!("CARGO_TARGET_TMPDIR"));
+    // The small trace; the same with no facility, and of a text that has no change.
+    let mut none = TRACE;
+    none[11] = 0;
+    let mut text = TRACE;
+    text[35] = 4;
+    text[39] = 0;
+    let mut command = Command::new(&program);
+    for (name, file) in [("one", TRACE), ("none", none), ("text", text)] {
+        let path = folder.join(format!("nulls_{name}.lxt"));
+        std::fs::write(&path, file).expect("a place for a trace");
+        command.arg(path);
+    }
+    let ran = command.output().expect("a run");
+    assert!(ran.status.success(), "{:?}", ran.status);
+    let expected = [
+        "1 1 1 1 1 1 1 1 1 1 1 1 1",
+        "0 0 0 21 0 21 21 21 22 21 21 0 21",
+        "0 18 18 18 18 18 18 0 0 22 0 0 21",
+        "0 0 0 21 19 19 0 21 22 21 21 0 21",
+    ];
+    let printed = String::from_utf8_lossy(&ran.stdout);
+    assert_eq!(Vec::from_iter(printed.lines()), expected);
+}
+
+#[test]
+fn the_archive_needs_memcpy_and_memset_alone() {
+    let archive = repository().join("target/staticlib/liblxt_c.a");
+    let symbols = |word: &str| {
+        let listed = Command::new("nm").arg(word).arg(&archive).output();
+        let listed = listed.expect("nm, which comes with the linker");
+        assert!(listed.status.success(), "{:?}", listed.status);
+        let text = String::from_utf8_lossy(&listed.stdout).into_owned();
+        let names = text.lines().filter_map(|it| it.rsplit_once(' '));
+        BTreeSet::from_iter(names.map(|(_, name)| name.to_string()))
+    };
+    let needed = &symbols("--undefined-only") - &symbols("--defined-only");
+    let expected = ["memcpy", "memset"].map(String::from);
+    assert_eq!(needed, BTreeSet::from(expected));
 }

@@ -2,7 +2,8 @@
 
 use std::collections::BTreeMap;
 
-use lxt::{Change, Reading, Refusal, Trace};
+use lxt::{Change, Reading, Refusal, Trace, Walk};
+use lxt_compare::traces;
 use lxt_generate::Random;
 use lxt_reference::{Judged, Value};
 
@@ -30,6 +31,7 @@ fn sort_of(reading: &Reading) -> &'static str {
         Reading::Real(_) => "real",
         Reading::Text(_) => "text",
         Reading::NotDriven => "not driven",
+        other => panic!("{other:?}"),
     }
 }
 
@@ -158,6 +160,25 @@ fn walks_hand_out_the_full_list_in_batches_of_any_size() {
         let each = judged.chains().iter().map(Vec::len).sum::<usize>();
         assert_eq!(all, each, "{what}");
     });
-    println!("{walks} walks, {several} of several batches of 64");
+    println!("{walks} walks, {several} of more than 64 changes");
     assert!(walks >= 3_000 && several >= 20, "{walks} {several}");
+}
+
+#[test]
+fn walks_of_the_traces_in_batches_that_double() {
+    let mut several = 0;
+    for (name, file) in traces(usize::MAX) {
+        let Ok(trace) = Trace::open(&file) else {
+            continue;
+        };
+        let judged = Judged::new(&file).expect("a trace");
+        let list = judged.full_list(&vec![1; trace.facilities().len()]);
+        let list = list.expect("a list").into_iter();
+        let list = list.map(|(facility, offset)| Change { facility, offset });
+        let list: Vec<Change> = list.collect();
+        let walk = trace.walk_all().expect("a walk");
+        assert_eq!(Vec::from_iter(walk), list, "{name}");
+        several += u32::from(list.len() > Walk::BATCH as usize);
+    }
+    assert!(several >= 5, "{several}");
 }

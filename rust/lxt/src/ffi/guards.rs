@@ -5,9 +5,11 @@
 use std::ffi::{c_int, c_void};
 use std::marker::PhantomData;
 
+use super::c::{Facility, Handed, Summary, Value};
+use super::tests::{handed, numbers, shape};
 use crate::Pair;
 use lxt_generate::Random;
-use lxt_reference::{Judged, Value};
+use lxt_reference::Judged;
 
 extern "C" {
     fn mmap(
@@ -115,10 +117,11 @@ struct Lent {
     bytes: Guarded<u8>,
     pairs: Guarded<Pair>,
     output: Guarded<u32>,
-    /// Arrays and single numbers.
-    four: Guarded<[u32; 4]>,
-    three: Guarded<[u64; 3]>,
-    two: Guarded<[u32; 2]>,
+    /// Structs and single numbers.
+    summary: Guarded<Summary>,
+    facts: Guarded<Facility>,
+    value: Guarded<Value>,
+    handed: Guarded<Handed>,
     one: Guarded<u32>,
     msb: Guarded<i32>,
     lsb: Guarded<i32>,
@@ -133,9 +136,10 @@ impl Lent {
             bytes: Guarded::new(8_192),
             pairs: Guarded::new(8_192),
             output: Guarded::new(16_384),
-            four: Guarded::new(1),
-            three: Guarded::new(1),
-            two: Guarded::new(1),
+            summary: Guarded::new(1),
+            facts: Guarded::new(1),
+            value: Guarded::new(1),
+            handed: Guarded::new(1),
             one: Guarded::new(1),
             msb: Guarded::new(1),
             lsb: Guarded::new(1),
@@ -146,14 +150,28 @@ impl Lent {
 
 const MARK: u32 = 0xAAAA_AAAA;
 
-fn numbers(value: Value) -> [u64; 3] {
-    match value {
-        Value::Bits { width } => [0, width.into(), 0],
-        Value::Real { bits } => [1, bits, 0],
-        Value::Text { start, length } => [2, start.into(), length.into()],
-        Value::NotDriven => [3, 0, 0],
-    }
-}
+const SUMMARY: Summary = Summary {
+    facilities: MARK,
+    changes: MARK,
+    end: MARK,
+    initial: MARK,
+};
+
+const FACTS: Facility = Facility {
+    width: MARK,
+    kind: MARK,
+};
+
+const VALUE: Value = Value {
+    what: 77,
+    number: 78,
+    length: 79,
+};
+
+const HANDED: Handed = Handed {
+    count: MARK,
+    done: MARK,
+};
 
 /// What a call is to leave: its answer and 0, or what was lent and the refusal.
 fn after<T>(expected: Result<T, u8>, lent: T) -> (u32, T) {
@@ -173,29 +191,34 @@ fn all_calls(file: &[u8], lent: &mut Lent, place: Place) -> u64 {
     let mut calls = 0;
     let file = lent.file.lend_to_read(file, place);
 
-    let four = &mut lent.four.lend(&[[MARK; 4]], place)[0];
+    let answer = &mut lent.summary.lend(&[SUMMARY], place)[0];
     let scale = &mut lent.scale.lend(&[99], place)[0];
-    let number = super::judge(file, four, scale);
+    let number = super::judge(file, answer, scale);
     let summary = judged.map(Judged::summary);
     let expected = summary.map(|it| {
-        let four = [it.facilities, it.changes, it.end, it.initial.into()];
-        (four, it.timescale)
+        let answer = Summary {
+            facilities: it.facilities,
+            changes: it.changes,
+            end: it.end,
+            initial: it.initial.into(),
+        };
+        (answer, it.timescale)
     });
-    assert_eq!((number, (*four, *scale)), after(expected, ([MARK; 4], 99)));
+    assert_eq!((number, (*answer, *scale)), after(expected, (SUMMARY, 99)));
     calls += 1;
 
     let last = n.saturating_sub(1) as u32;
     for facility in [0, random.below(n.max(1)) as u32, last, n as u32, u32::MAX] {
-        let two = &mut lent.two.lend(&[[MARK; 2]], place)[0];
+        let answer = &mut lent.facts.lend(&[FACTS], place)[0];
         let msb = &mut lent.msb.lend(&[7], place)[0];
         let lsb = &mut lent.lsb.lend(&[7], place)[0];
-        let number = super::facts(file, facility, two, msb, lsb);
+        let number = super::facts(file, facility, answer, msb, lsb);
         let facts = judged.and_then(|it| it.facts(facility));
         let width = facts.map_or(40, |it| it.width as usize);
-        let expected = facts.map(|it| ([it.width, it.kind as u32], it.msb, it.lsb));
+        let expected = facts.map(|it| (shape(&it), it.msb, it.lsb));
         assert_eq!(
-            (number, (*two, *msb, *lsb)),
-            after(expected, ([MARK; 2], 7, 7))
+            (number, (*answer, *msb, *lsb)),
+            after(expected, (FACTS, 7, 7))
         );
 
         let one = &mut lent.one.lend(&[MARK], place)[0];
@@ -227,23 +250,23 @@ fn all_calls(file: &[u8], lent: &mut Lent, place: Place) -> u64 {
             for room in [width.saturating_sub(1), width] {
                 let marked = vec![0xA5; room];
                 let one = &mut lent.one.lend(&[MARK], place)[0];
-                let three = &mut lent.three.lend(&[[77; 3]], place)[0];
+                let answer = &mut lent.value.lend(&[VALUE], place)[0];
                 let bits = lent.bytes.lend(&marked, place);
-                let number = super::change(file, facility, offset, bits, one, three);
+                let number = super::change(file, facility, offset, bits, one, answer);
                 let mut room = marked.clone();
                 let expected = judged.and_then(|it| it.change(facility, offset, &mut room));
                 let time = expected.map(|(time, _)| time);
                 let value = expected.map(|(_, value)| numbers(value));
                 assert_eq!((number, *one), after(time, MARK));
-                assert_eq!((number, *three), after(value, [77; 3]));
+                assert_eq!((number, *answer), after(value, VALUE));
                 assert_eq!(bits, room);
 
-                let three = &mut lent.three.lend(&[[77; 3]], place)[0];
+                let answer = &mut lent.value.lend(&[VALUE], place)[0];
                 let bits = lent.bytes.lend(&marked, place);
-                let number = super::value_at(file, facility, offset, bits, three);
+                let number = super::value_at(file, facility, offset, bits, answer);
                 let mut room = marked;
                 let expected = judged.and_then(|it| it.value_at(facility, offset, &mut room));
-                assert_eq!((number, *three), after(expected.map(numbers), [77; 3]));
+                assert_eq!((number, *answer), after(expected.map(numbers), VALUE));
                 assert_eq!(bits, room);
                 calls += 3;
             }
@@ -269,8 +292,8 @@ fn all_calls(file: &[u8], lent: &mut Lent, place: Place) -> u64 {
             for room in [(2 * size as usize).saturating_sub(1), 2 * size as usize] {
                 let mut marked = vec![MARK; room];
                 let output = lent.output.lend(&marked, place);
-                let two = &mut lent.two.lend(&[[MARK; 2]], place)[0];
-                let number = super::carry_on(file, pairs, size, output, two);
+                let answer = &mut lent.handed.lend(&[HANDED], place)[0];
+                let number = super::carry_on(file, pairs, size, output, answer);
                 let expected = lxt_reference::carry_on(
                     file,
                     &mut numbers,
@@ -278,8 +301,7 @@ fn all_calls(file: &[u8], lent: &mut Lent, place: Place) -> u64 {
                     &mut marked,
                     size.into(),
                 );
-                let expected = expected.map(|(count, done)| [count, done.into()]);
-                assert_eq!((number, *two), after(expected, [MARK; 2]));
+                assert_eq!((number, *answer), after(expected.map(handed), HANDED));
                 assert_eq!(output, marked);
                 let ours = pairs.iter().map(|it| (it.number, it.offset));
                 let theirs = numbers.iter().copied().zip(offsets.iter().copied());

@@ -1,3 +1,4 @@
+use super::c::{self, Facility, Handed, Summary};
 use super::judge;
 use crate::Pair;
 use lxt_reference::{Judged, Value};
@@ -16,6 +17,10 @@ fn rust_type(words: &str) -> String {
     match words {
         "size_t" => "usize".to_string(),
         "lxt_pair" => "Pair".to_string(),
+        "lxt_summary" => "Summary".to_string(),
+        "lxt_facility" => "Facility".to_string(),
+        "lxt_value" => "Value".to_string(),
+        "lxt_handed" => "Handed".to_string(),
         _ => {
             let number = words.strip_suffix("_t").expect("a number's type");
             let number = number.replace("uint", "u").replace("int", "i");
@@ -41,6 +46,11 @@ fn the_declarations_are_those_of_the_header() {
     let ours = joined(include_str!("../ffi.rs")).replace(", ) ->", " ) ->");
     let ours = ours.replace("( ", "(").replace(" )", ")");
 
+    // The pair is public, with words at its fields.
+    let pair = include_str!("../lib.rs").lines();
+    let pair = pair.filter(|line| !line.trim_start().starts_with("//"));
+    let pair = joined(&Vec::from_iter(pair).join(" "));
+
     let functions: Vec<&str> = plain.split("uint32_t lxt_").skip(1).collect();
     assert_eq!(functions.len(), 9);
     for function in functions {
@@ -57,7 +67,28 @@ fn the_declarations_are_those_of_the_header() {
         assert!(ours.contains(&declared), "{declared}");
     }
     assert_eq!(ours.matches("pub fn lxt_").count(), 9);
-    assert!(joined(&plain).contains("struct { uint32_t number; uint32_t offset; } lxt_pair;"));
+
+    let structs: Vec<&str> = plain.split("typedef struct {").skip(1).collect();
+    assert_eq!(structs.len(), 5);
+    for part in structs {
+        let (fields, rest) = part.split_once('}').expect("its end");
+        let (name, _) = rest.split_once(';').expect("its name");
+        let fields = fields.split(';').map(joined).filter(|it| !it.is_empty());
+        let fields = fields.map(|field| {
+            let (of, name) = field.split_once(' ').expect("a type");
+            format!("pub {name}: {},", rust_type(of))
+        });
+        let fields = Vec::from_iter(fields).join(" ");
+        let declared = format!("pub struct {} {{ {fields} }}", rust_type(name));
+        let code = match name.trim() {
+            "lxt_pair" => &pair,
+            _ => &ours,
+        };
+        assert!(code.contains(&declared), "{declared}");
+        let laid_out = code.split(&declared).next().expect("what is before");
+        let laid_out = laid_out.rsplit_once("#[repr(C)]").expect("a layout").1;
+        assert!(!laid_out.contains("struct"), "{declared}");
+    }
 }
 
 // ---- Length ----
@@ -70,7 +101,7 @@ fn all_answers(file: &[u8], bits: &mut [u8], pairs: &mut [Pair], output: &mut [u
     answers += &format!("{number} {four:?} {scale}, ");
     let asked = vec![1; pairs.len()];
     for facility in [0, 1, 200] {
-        let (mut two, mut msb, mut lsb) = ([77; 2], 7, 7);
+        let (mut two, mut msb, mut lsb) = (FACTS, 7, 7);
         let number = super::facts(file, facility, &mut two, &mut msb, &mut lsb);
         answers += &format!("{number} {two:?} {msb} {lsb}, ");
         let mut one = 77;
@@ -80,7 +111,7 @@ fn all_answers(file: &[u8], bits: &mut [u8], pairs: &mut [Pair], output: &mut [u
         answers += &format!("{number} {one} {bits:?}, ");
         let number = super::change_before(file, facility, 6, &mut one);
         answers += &format!("{number} {one}, ");
-        let mut three = [77; 3];
+        let mut three = VALUE;
         let number = super::change(file, facility, 6, bits, &mut one, &mut three);
         answers += &format!("{number} {one} {three:?} {bits:?}, ");
         let number = super::value_at(file, facility, 100, bits, &mut three);
@@ -88,7 +119,7 @@ fn all_answers(file: &[u8], bits: &mut [u8], pairs: &mut [Pair], output: &mut [u
     }
     let number = super::start_walk(file, &asked, pairs);
     answers += &format!("{number} {pairs:?}, ");
-    let mut two = [77; 2];
+    let mut two = HANDED;
     let number = super::carry_on(file, pairs, 3, output, &mut two);
     answers + &format!("{number} {two:?} {pairs:?} {output:?}")
 }
@@ -130,19 +161,19 @@ fn an_empty_slice_may_be_lent() {
     for (file, n) in small_files(0..600) {
         let accepted = lxt_reference::judge(&file).is_ok();
         if accepted && n > 0 {
-            let (mut one, mut two) = (77, [77; 2]);
+            let (mut one, mut two) = (77, HANDED);
             assert_eq!(super::name(&file, 0, &mut [], &mut one), 21);
             assert_eq!(super::start_walk(&file, &[], &mut []), 21);
             let number = super::carry_on(&file, &mut [], 0, &mut [], &mut two);
-            assert_eq!((number, one, two), (21, 77, [77; 2]));
+            assert_eq!((number, one, two), (21, 77, HANDED));
             lacking += 1;
         }
         // A file without facilities needs no pair.
         if accepted && n == 0 {
             assert_eq!(super::start_walk(&file, &[], &mut []), 0);
-            let mut answer = [77; 2];
+            let mut answer = HANDED;
             let number = super::carry_on(&file, &mut [], 0, &mut [], &mut answer);
-            assert_eq!((number, answer), (0, [0, 1]));
+            assert_eq!((number, answer), (0, Handed { count: 0, done: 1 }));
             walked += 1;
         }
     }
@@ -154,11 +185,14 @@ fn an_empty_slice_may_be_lent() {
 // ---- Aligned ----
 
 #[test]
-fn a_pair_is_two_numbers() {
-    assert_eq!(std::mem::size_of::<Pair>(), 8);
-    assert_eq!(std::mem::align_of::<Pair>(), 4);
+fn a_struct_is_its_numbers() {
+    assert_eq!((size_of::<Pair>(), align_of::<Pair>()), (8, 4));
     assert_eq!(std::mem::offset_of!(Pair, number), 0);
     assert_eq!(std::mem::offset_of!(Pair, offset), 4);
+    assert_eq!((size_of::<Summary>(), align_of::<Summary>()), (16, 4));
+    assert_eq!((size_of::<Facility>(), align_of::<Facility>()), (8, 4));
+    assert_eq!((size_of::<c::Value>(), align_of::<c::Value>()), (24, 8));
+    assert_eq!((size_of::<Handed>(), align_of::<Handed>()), (8, 4));
 }
 
 /// Memory from an address that 64 divides.
@@ -293,23 +327,28 @@ impl<T> Framed<T> {
 }
 
 #[test]
-fn arrays_are_written_whole_and_nothing_around_them() {
+fn structs_are_written_whole_and_nothing_around_them() {
     let file = include_bytes!("../../../../traces/gpsim_onereg.lxt");
     let judged = Judged::new(file).expect("a trace");
     let newest = judged.chains()[0][0];
 
-    let (mut four, mut scale) = (framed([MARKED[0]; 4]), framed(99_i8));
+    let (mut four, mut scale) = (framed(MARKED), framed(99_i8));
     assert_eq!(judge(file, &mut four.lent, &mut scale.lent), 0);
     let summary = judged.summary();
-    let expected = [1, summary.changes, summary.end, summary.initial.into()];
+    let expected = Summary {
+        facilities: 1,
+        changes: summary.changes,
+        end: summary.end,
+        initial: summary.initial.into(),
+    };
     assert_eq!(four.unframed(), expected);
     assert_eq!(scale.unframed(), summary.timescale);
 
-    let (mut two, mut msb, mut lsb) = (framed([77; 2]), framed(77), framed(77));
+    let (mut two, mut msb, mut lsb) = (framed(FACTS), framed(77), framed(77));
     let number = super::facts(file, 0, &mut two.lent, &mut msb.lent, &mut lsb.lent);
     let facts = judged.facts(0).expect("facts");
     assert_eq!(number, 0);
-    assert_eq!(two.unframed(), [facts.width, facts.kind as u32]);
+    assert_eq!(two.unframed(), shape(&facts));
     assert_eq!((msb.unframed(), lsb.unframed()), (facts.msb, facts.lsb));
 
     let mut one = framed(77);
@@ -326,12 +365,12 @@ fn arrays_are_written_whole_and_nothing_around_them() {
 
     let mut room = [9; 4_096];
     let (time, value) = judged.change(0, newest, &mut room).expect("a change");
-    let (mut one, mut three, mut bits) = (framed(77), framed([77; 3]), framed([9; 4_096]));
+    let (mut one, mut three, mut bits) = (framed(77), framed(VALUE), framed([9; 4_096]));
     let (lent, answer) = (&mut bits.lent, &mut three.lent);
     let number = super::change(file, 0, newest, lent, &mut one.lent, answer);
     assert_eq!((number, one.unframed()), (0, time));
     assert_eq!((three.unframed(), bits.unframed()), (numbers(value), room));
-    let (mut three, mut bits) = (framed([77; 3]), framed([9; 4_096]));
+    let (mut three, mut bits) = (framed(VALUE), framed([9; 4_096]));
     let number = super::value_at(file, 0, u32::MAX, &mut bits.lent, &mut three.lent);
     let mut room = [9; 4_096];
     let value = judged.value_at(0, u32::MAX, &mut room).expect("a value");
@@ -340,16 +379,37 @@ fn arrays_are_written_whole_and_nothing_around_them() {
 
     let mut pairs = framed([PAIR; 1]);
     assert_eq!(super::start_walk(file, &[1], &mut pairs.lent), 0);
-    let (mut two, mut output) = (framed([77; 2]), framed([77; 2]));
+    let (mut two, mut output) = (framed(HANDED), framed([77; 2]));
     let lent = (&mut pairs.lent, &mut output.lent);
     assert_eq!(super::carry_on(file, lent.0, 1, lent.1, &mut two.lent), 0);
     assert_eq!(output.unframed(), [0, newest]);
     assert_eq!(Ok(pairs.unframed()[0].offset), before);
     let done = u32::from(before == Ok(0));
-    assert_eq!(two.unframed(), [1, done]);
+    assert_eq!(two.unframed(), Handed { count: 1, done });
 }
 
-const MARKED: [u32; 4] = [0xAAAA_AAAA; 4];
+const MARKED: Summary = Summary {
+    facilities: 0xAAAA_AAAA,
+    changes: 0xBBBB_BBBB,
+    end: 0xCCCC_CCCC,
+    initial: 0xDDDD_DDDD,
+};
+
+const FACTS: Facility = Facility {
+    width: 0xAAAA_AAAA,
+    kind: 0xBBBB_BBBB,
+};
+
+const VALUE: c::Value = c::Value {
+    what: 0xAAAA_AAAA_AAAA_AAAA,
+    number: 0xBBBB_BBBB_BBBB_BBBB,
+    length: 0xCCCC_CCCC_CCCC_CCCC,
+};
+
+const HANDED: Handed = Handed {
+    count: 0xAAAA_AAAA,
+    done: 0xBBBB_BBBB,
+};
 
 #[test]
 fn a_refused_file_writes_nothing() {
@@ -371,13 +431,33 @@ fn after<T>(expected: Result<T, u8>, marked: T) -> (u32, T) {
     }
 }
 
-fn numbers(value: Value) -> [u64; 3] {
-    match value {
-        Value::Bits { width } => [0, u64::from(width), 0],
-        Value::Real { bits } => [1, bits, 0],
-        Value::Text { start, length } => [2, u64::from(start), u64::from(length)],
-        Value::NotDriven => [3, 0, 0],
+/// The independent reader's value as the numbers of C's.
+pub fn numbers(value: Value) -> c::Value {
+    let (what, number, length) = match value {
+        Value::Bits { width } => (0, width.into(), 0),
+        Value::Real { bits } => (1, bits, 0),
+        Value::Text { start, length } => (2, start.into(), length.into()),
+        Value::NotDriven => (3, 0, 0),
+    };
+    c::Value {
+        what,
+        number,
+        length,
     }
+}
+
+/// The independent reader's facts as the numbers of C's.
+pub fn shape(facts: &lxt_reference::Facts) -> Facility {
+    Facility {
+        width: facts.width,
+        kind: facts.kind as u32,
+    }
+}
+
+/// The independent reader's count and end as the numbers of C's.
+pub fn handed((count, done): (u32, bool)) -> Handed {
+    let done = done.into();
+    Handed { count, done }
 }
 
 /// Asks about facilities of generated files, accepted and refused ones, with the facilities'
@@ -427,37 +507,35 @@ fn one_number_is_written_or_stays() {
 }
 
 #[test]
-fn three_numbers_are_written_or_stay() {
-    const MARKS: [u64; 3] = [0xAAAA_AAAA_AAAA_AAAA; 3];
+fn a_value_is_written_or_stays() {
     questions(|file, judged, facility, time, room| {
         let judged = judged.as_ref().map_err(|number| *number);
         let mut bits = vec![0xA5; room];
-        let mut answer = MARKS;
+        let mut answer = VALUE;
         let number = super::value_at(file, facility, time, &mut bits, &mut answer);
         let mut expected_bits = vec![0xA5; room];
         let expected = judged.and_then(|it| it.value_at(facility, time, &mut expected_bits));
-        assert_eq!((number, answer), after(expected.map(numbers), MARKS));
+        assert_eq!((number, answer), after(expected.map(numbers), VALUE));
         assert_eq!(bits, expected_bits);
     });
 }
 
 #[test]
 fn facts_are_written_or_stay() {
-    const MARKS: ([u32; 2], i32, i32) = ([0xAAAA_AAAA; 2], 0x5555_5555, 0x6666_6666);
+    const MARKS: (Facility, i32, i32) = (FACTS, 0x5555_5555, 0x6666_6666);
     questions(|file, judged, facility, _, _| {
         let judged = judged.as_ref().map_err(|number| *number);
         let (mut answer, mut msb, mut lsb) = MARKS;
         let number = super::facts(file, facility, &mut answer, &mut msb, &mut lsb);
         let expected = judged.and_then(|it| it.facts(facility));
-        let expected =
-            expected.map(|facts| ([facts.width, facts.kind as u32], facts.msb, facts.lsb));
+        let expected = expected.map(|facts| (shape(&facts), facts.msb, facts.lsb));
         assert_eq!((number, (answer, msb, lsb)), after(expected, MARKS));
     });
 }
 
 #[test]
 fn a_change_is_written_or_stays() {
-    const MARKS: (u32, [u64; 3]) = (0xAAAA_AAAA, [0xAAAA_AAAA_AAAA_AAAA; 3]);
+    const MARKS: (u32, c::Value) = (0xAAAA_AAAA, VALUE);
     questions(|file, judged, facility, offset, room| {
         let judged = judged.as_ref().map_err(|number| *number);
         let mut bits = vec![0xA5; room];
@@ -479,7 +557,6 @@ fn apart(pairs: &[Pair]) -> (Vec<u32>, Vec<u32>) {
 
 #[test]
 fn a_walk_is_written_or_stays() {
-    const MARKS: [u32; 2] = [0xAAAA_AAAA; 2];
     let mark = Pair {
         number: 0xAAAA_AAAA,
         offset: 0xBBBB_BBBB,
@@ -502,9 +579,9 @@ fn a_walk_is_written_or_stays() {
 
         // The record that was started, or the marks where the file was refused.
         for size in [1, 17, u32::MAX] {
-            let mut output = vec![MARKS[0]; room];
+            let mut output = vec![0xAAAA_AAAA; room];
             let mut expected_output = output.clone();
-            let mut answer = MARKS;
+            let mut answer = HANDED;
             let number = super::carry_on(file, &mut pairs, size, &mut output, &mut answer);
             let expected = lxt_reference::carry_on(
                 file,
@@ -513,8 +590,8 @@ fn a_walk_is_written_or_stays() {
                 &mut expected_output,
                 size.into(),
             );
-            let expected = expected.map(|(count, done)| [count, done.into()]);
-            assert_eq!((number, answer), after(expected, MARKS));
+            let expected = expected.map(handed);
+            assert_eq!((number, answer), after(expected, HANDED));
             assert_eq!(output, expected_output);
             assert_eq!(apart(&pairs), (numbers.clone(), offsets.clone()));
         }
