@@ -1,5 +1,5 @@
 -- That each rule does something: for each refusal number files and questions on either side of the rule, and the answers of a trace with every kind.
-use Prim.Native.Nat.{ℕ}
+use Prim.Native.Nat.{ℕ, _+_}
 use mathlib.Core.Path.{refl}
 use mathlib.Core.Bool.{true, false}
 use mathlib.Core.List.{List, [], _∷_, _++_, map}
@@ -14,20 +14,20 @@ use Rattle.lxt_format.specs.Walk.{fullList}
 use Rattle.lxt_format.specs.Answers.{bitsOf, realOf, textOf, nothing}
 use Rattle.lxt_format.specs.Questions.{factsAsked, rootAsked, nameAsked, nameBuffer, beforeAsked, changeAsked, changeBuffer, valueAsked, valueBuffer, startAsked, startRecord, carryAsked}
 use Rattle.lxt_format.specs.Everything.{everything}
-use Rattle.lxt_format.specs.Traces.{spelled, trace, mixed}
-use Rattle.lxt_format.specs.Examples.{Row, row, Holds, pair}
+use Rattle.lxt_format.specs.Traces.{spelled, with16, with32, trace, version, newestCommand, newestDelta, nameMemory, namePrefix, nameZero, rows, msb, lsb, flags, syncEntry, entries, firstOfTimes, lastOfTimes, positionDelta0, positionDelta1, timeDelta0, timeDelta1, changesValue, syncValue, namesValue, geometryValue, timesValue, lastByte, facilitiesNamed, mixed, delta5, data5, command8, command37, data29, syncOfMixed, rowsOfMixed, flagsOfMixed, timescaleByte, initialByte, realTest, testValue}
+use Rattle.lxt_format.specs.Examples.{Row, row, Holds, _and_, pair}
 use Rattle.lxt_format.specs.declared.Pair.{Pair}
 use Rattle.lxt_format.specs.declared.Kind.the-variants.{Bits, Integer}
 
 -- the small trace with one more item of the section list, next to the last byte
 endItem : ℕ → List ℕ
 unfolding trace spelled
-endItem x = take 94 trace ++ spelled 5 x ++ (0xB4 ∷ [])
+endItem x = take lastByte trace ++ spelled 5 x ++ (0xB4 ∷ [])
 
 -- a file with END at 68 with one more item, next to END
 nearerEnd : ℕ → List ℕ → List ℕ
 unfolding spelled
-nearerEnd x s = take 69 s ++ spelled 5 x ++ drop 69 s
+nearerEnd x s = take changesValue s ++ spelled 5 x ++ drop changesValue s
 
 -- a record of the trace `mixed` in which the alias 4 has the pending offset o
 abbrev pending : ℕ → List Pair
@@ -40,10 +40,10 @@ neighbours =
     ∷ row 1 (fileRefusal (spelled 6 0x0138000400B4)) 7
     ∷ row 2 (fileRefusal (set trace 0 0)) 2
     ∷ row 2 (fileRefusal (set trace 1 0x39)) 2
-    ∷ row 2 (fileRefusal (set trace 3 5)) 2
-    ∷ row 2 (fileRefusal (set trace 2 1)) 2
-    ∷ row 2 (fileRefusal (set trace 3 0)) 0
-    ∷ row 3 (fileRefusal (set trace 94 0xB5)) 3
+    ∷ row 2 (fileRefusal (with16 trace version 5)) 2
+    ∷ row 2 (fileRefusal (with16 trace version 0x0104)) 2
+    ∷ row 2 (fileRefusal (with16 trace version 0)) 0
+    ∷ row 3 (fileRefusal (set trace lastByte 0xB5)) 3
     ∷ row 3 (fileRefusal trace) 0
     ∷ row 4 (fileRefusal (spelled 6 0x0138000407B4)) 4
     ∷ row 4 (fileRefusal (spelled 10 0x01380004000000FF07B4)) 4
@@ -57,21 +57,21 @@ neighbours =
     ∷ row 6 (fileRefusal (endItem 0x0000000109)) 6
     ∷ row 6 (fileRefusal (endItem 0x0000000009)) 0
     ∷ row 6 (fileRefusal (nearerEnd 0x0000000009 (endItem 0x0000000109))) 0
-    ∷ row 7 (fileRefusal (set trace 72 0)) 7
-    ∷ row 7 (fileRefusal (set trace 77 0)) 7
-    ∷ row 7 (fileRefusal (set trace 82 0)) 7
-    ∷ row 7 (fileRefusal (set trace 87 0)) 7
-    ∷ row 7 (fileRefusal (set trace 92 0)) 7
+    ∷ row 7 (fileRefusal (with32 trace changesValue 0)) 7
+    ∷ row 7 (fileRefusal (with32 trace syncValue 0)) 7
+    ∷ row 7 (fileRefusal (with32 trace namesValue 0)) 7
+    ∷ row 7 (fileRefusal (with32 trace geometryValue 0)) 7
+    ∷ row 7 (fileRefusal (with32 trace timesValue 0)) 7
     ∷ row 7 (fileRefusal (nearerEnd 0x0000000001 trace)) 7
-    ∷ row 8 (fileRefusal (set trace 72 3)) 8
-    ∷ row 8 (fileRefusal (set trace 72 69)) 8
-    ∷ row 8 (fileRefusal (set (set trace 72 68) 39 0)) 0
-    ∷ row 8 (fileRefusal (set trace 72 68)) 15
-    ∷ row 8 (fileRefusal (set trace 77 65)) 8
-    ∷ row 8 (fileRefusal (set trace 77 3)) 8
-    ∷ row 8 (fileRefusal (set trace 82 61)) 8
-    ∷ row 8 (fileRefusal (set trace 87 53)) 8
-    ∷ row 8 (fileRefusal (set trace 92 41)) 8
+    ∷ row 8 (fileRefusal (with32 trace changesValue 3)) 8
+    ∷ row 8 (fileRefusal (with32 trace changesValue 69)) 8
+    ∷ row 8 (fileRefusal (with32 (with32 trace changesValue 68) syncEntry 0)) 0
+    ∷ row 8 (fileRefusal (with32 trace changesValue 68)) 15
+    ∷ row 8 (fileRefusal (with32 trace syncValue 65)) 8
+    ∷ row 8 (fileRefusal (with32 trace syncValue 3)) 8
+    ∷ row 8 (fileRefusal (with32 trace namesValue 61)) 8
+    ∷ row 8 (fileRefusal (with32 trace geometryValue 53)) 8
+    ∷ row 8 (fileRefusal (with32 trace timesValue 41)) 8
     ∷ row 8 (fileRefusal (endItem 0x0000004405)) 8
     ∷ row 8 (fileRefusal (endItem 0x0000004305)) 0
     ∷ row 8 (fileRefusal (endItem 0x0000004407)) 8
@@ -80,58 +80,58 @@ neighbours =
     ∷ row 8 (fileRefusal (endItem 0x0000FF0008)) 0
     ∷ row 9 (9 unless countAllowed 4096) 0
     ∷ row 9 (9 unless countAllowed 4097) 9
-    ∷ row 10 (fileRefusal (set trace 15 1)) 10
-    ∷ row 10 (fileRefusal (set trace 17 1)) 10
-    ∷ row 10 (fileRefusal (set trace 19 0x61)) 10
-    ∷ row 10 (fileRefusal (set (set trace 19 0x61) 15 3)) 0
-    ∷ row 10 (fileRefusal (set trace 15 200)) 0
-    ∷ row 11 (fileRefusal (set trace 23 1)) 11
-    ∷ row 11 (fileRefusal (set trace 35 3)) 11
-    ∷ row 11 (fileRefusal (set trace 35 16)) 11
-    ∷ row 11 (fileRefusal (set (set trace 39 0) 26 0x10)) 11
-    ∷ row 11 (fileRefusal (set (set (set trace 39 0) 26 0x0F) 27 0xFF)) 0
-    ∷ row 11 (fileRefusal (set trace 35 4)) 17
-    ∷ row 12 (fileRefusal (set trace 35 8)) 12
-    ∷ row 12 (fileRefusal (set (set trace 35 8) 23 1)) 12
+    ∷ row 10 (fileRefusal (with32 trace nameMemory 1)) 10
+    ∷ row 10 (fileRefusal (with16 trace namePrefix 1)) 10
+    ∷ row 10 (fileRefusal (set trace nameZero 0x61)) 10
+    ∷ row 10 (fileRefusal (with32 (set trace nameZero 0x61) nameMemory 3)) 0
+    ∷ row 10 (fileRefusal (with32 trace nameMemory 200)) 0
+    ∷ row 11 (fileRefusal (with32 trace rows 1)) 11
+    ∷ row 11 (fileRefusal (with32 trace flags 3)) 11
+    ∷ row 11 (fileRefusal (with32 trace flags 16)) 11
+    ∷ row 11 (fileRefusal (with32 (with32 trace syncEntry 0) msb 4096)) 11
+    ∷ row 11 (fileRefusal (with32 (with32 trace syncEntry 0) msb 4095)) 0
+    ∷ row 11 (fileRefusal (with32 trace flags 4)) 17
+    ∷ row 12 (fileRefusal (with32 trace flags 8)) 12
+    ∷ row 12 (fileRefusal (with32 (with32 trace flags 8) rows 1)) 12
     ∷ row 12 (fileRefusal mixed) 0
-    ∷ row 12 (fileRefusal (set mixed 158 6)) 12
-    ∷ row 12 (fileRefusal (set mixed 174 4)) 12
-    ∷ row 12 (fileRefusal (set mixed 174 2)) 0
-    ∷ row 13 (fileRefusal (set trace 43 0)) 13
-    ∷ row 13 (fileRefusal (set (set trace 43 0) 39 0)) 0
-    ∷ row 13 (fileRefusal (set trace 55 3)) 13
-    ∷ row 13 (fileRefusal (set trace 55 5)) 0
-    ∷ row 13 (fileRefusal (set trace 59 0)) 13
-    ∷ row 13 (fileRefusal (set trace 59 64)) 13
-    ∷ row 13 (fileRefusal (set trace 59 63)) 0
-    ∷ row 13 (fileRefusal (set trace 67 0)) 13
-    ∷ row 13 (fileRefusal (set trace 51 4)) 13
-    ∷ row 13 (fileRefusal (set trace 47 1)) 13
-    ∷ row 13 (fileRefusal (set (set trace 63 1) 51 6)) 0
-    ∷ row 13 (fileRefusal (set (set (set (set trace 56 0xFF) 57 0xFF) 58 0xFF) 59 0xFF)) 13
-    ∷ row 14 (fileRefusal (set mixed 234 0x87)) 14
-    ∷ row 14 (fileRefusal (set (set mixed 235 0x6E) 236 0x1B)) 0
-    ∷ row 14 (fileRefusal (set mixed 281 0)) 14
-    ∷ row 14 (fileRefusal (set mixed 281 235)) 14
-    ∷ row 14 (fileRefusal (set mixed 281 3)) 14
-    ∷ row 15 (fileRefusal (set trace 39 3)) 15
-    ∷ row 15 (fileRefusal (set trace 39 67)) 15
-    ∷ row 15 (fileRefusal (set trace 39 68)) 15
-    ∷ row 15 (fileRefusal (set trace 7 3)) 15
-    ∷ row 15 (fileRefusal (set mixed 6 2)) 15
-    ∷ row 16 (fileRefusal (set trace 6 0x43)) 16
-    ∷ row 16 (fileRefusal (set trace 6 0x0C)) 16
-    ∷ row 16 (fileRefusal (set trace 6 0x0B)) 0
-    ∷ row 16 (fileRefusal (set mixed 7 0xB5)) 16
-    ∷ row 16 (fileRefusal (set mixed 7 0xB8)) 0
-    ∷ row 16 (fileRefusal (set mixed 33 0x90)) 16
-    ∷ row 16 (fileRefusal (set mixed 33 0x81)) 16
-    ∷ row 16 (fileRefusal (set mixed 33 0x70)) 0
-    ∷ row 16 (fileRefusal (set mixed 8 1)) 16
-    ∷ row 16 (fileRefusal (set mixed 37 5)) 16
-    ∷ row 16 (fileRefusal (set mixed 37 3)) 0
-    ∷ row 17 (fileRefusal (set trace 39 7)) 17
-    ∷ row 17 (fileRefusal (set mixed 86 0)) 0
+    ∷ row 12 (fileRefusal (with32 mixed (rowsOfMixed 4) 6)) 12
+    ∷ row 12 (fileRefusal (with32 mixed (rowsOfMixed 5) 4)) 12
+    ∷ row 12 (fileRefusal (with32 mixed (rowsOfMixed 5) 2)) 0
+    ∷ row 13 (fileRefusal (with32 trace entries 0)) 13
+    ∷ row 13 (fileRefusal (with32 (with32 trace entries 0) syncEntry 0)) 0
+    ∷ row 13 (fileRefusal (with32 trace positionDelta0 3)) 13
+    ∷ row 13 (fileRefusal (with32 trace positionDelta0 5)) 0
+    ∷ row 13 (fileRefusal (with32 trace positionDelta1 0)) 13
+    ∷ row 13 (fileRefusal (with32 trace positionDelta1 64)) 13
+    ∷ row 13 (fileRefusal (with32 trace positionDelta1 63)) 0
+    ∷ row 13 (fileRefusal (with32 trace timeDelta1 0)) 13
+    ∷ row 13 (fileRefusal (with32 trace lastOfTimes 4)) 13
+    ∷ row 13 (fileRefusal (with32 trace firstOfTimes 1)) 13
+    ∷ row 13 (fileRefusal (with32 (with32 trace timeDelta0 1) lastOfTimes 6)) 0
+    ∷ row 13 (fileRefusal (with32 trace positionDelta1 0xFFFFFFFF)) 13
+    ∷ row 14 (fileRefusal (set mixed realTest 0x87)) 14
+    ∷ row 14 (fileRefusal (set (set mixed (realTest + 1) 0x6E) (realTest + 2) 0x1B)) 0
+    ∷ row 14 (fileRefusal (with32 mixed testValue 0)) 14
+    ∷ row 14 (fileRefusal (with32 mixed testValue 235)) 14
+    ∷ row 14 (fileRefusal (with32 mixed testValue 3)) 14
+    ∷ row 15 (fileRefusal (with32 trace syncEntry 3)) 15
+    ∷ row 15 (fileRefusal (with32 trace syncEntry 67)) 15
+    ∷ row 15 (fileRefusal (with32 trace syncEntry 68)) 15
+    ∷ row 15 (fileRefusal (set trace newestDelta 3)) 15
+    ∷ row 15 (fileRefusal (set mixed delta5 2)) 15
+    ∷ row 16 (fileRefusal (set trace newestCommand 0x43)) 16
+    ∷ row 16 (fileRefusal (set trace newestCommand 0x0C)) 16
+    ∷ row 16 (fileRefusal (set trace newestCommand 0x0B)) 0
+    ∷ row 16 (fileRefusal (set mixed data5 0xB5)) 16
+    ∷ row 16 (fileRefusal (set mixed data5 0xB8)) 0
+    ∷ row 16 (fileRefusal (set mixed data29 0x90)) 16
+    ∷ row 16 (fileRefusal (set mixed data29 0x81)) 16
+    ∷ row 16 (fileRefusal (set mixed data29 0x70)) 0
+    ∷ row 16 (fileRefusal (set mixed command8 1)) 16
+    ∷ row 16 (fileRefusal (set mixed command37 5)) 16
+    ∷ row 16 (fileRefusal (set mixed command37 3)) 0
+    ∷ row 17 (fileRefusal (with32 trace syncEntry 7)) 17
+    ∷ row 17 (fileRefusal (with32 mixed (syncOfMixed 4) 0)) 0
     ∷ row 18 (rootAsked trace 0) (given 0)
     ∷ row 18 (rootAsked trace 1) (refused 18)
     ∷ row 19 (beforeAsked trace 0 6) (given 4)
@@ -164,9 +164,8 @@ neighbours =
 pub neighbours-hold : Holds neighbours
 unfolding everything trace mixed spelled endItem nearerEnd neighbours
 neighbours-hold =
-    (refl, (refl, (refl, (refl, (refl, (refl, (refl, (refl, (refl, (refl, (refl, (refl, (refl, (refl, (refl, (refl, (refl, (refl, (refl, (refl, (refl, (refl, (refl, (refl, (refl, (refl, (refl, (refl, (refl, (refl, (refl, (refl, (refl, (refl, (refl, (refl, (refl, (refl, (refl, (refl, (refl, (refl, (refl, (refl, (refl, (refl, (refl, (refl, (refl, (refl, (refl, (refl, (refl, (refl, (refl, (refl, (refl, (refl, (refl, (refl, (refl, (refl, (refl, (refl, (refl, (refl, (refl, (refl, (refl, (refl, (refl, (refl, (refl, (refl, (refl, (refl, (refl, (refl, (refl, (refl, (refl, (refl, (refl, (refl, (refl, (refl, (refl, (refl, (refl, (refl, (refl, (refl, (refl, (refl, (refl, (refl, (refl, (refl, (refl, (refl, (refl, (refl, (refl, (refl, (refl, (refl, (refl, (refl, (refl, (refl, (refl, (refl, (refl, (refl, (refl, (refl, (refl, (refl, (refl, (refl, (refl, (refl, (refl, tt)))))))))))))))))))))))))))))))))))))))))))))))))))))))))))))))))))))))))))))))))))))))))))))))))))))))))))))))))))))))))))
+    refl and refl and refl and refl and refl and refl and refl and refl and refl and refl and refl and refl and refl and refl and refl and refl and refl and refl and refl and refl and refl and refl and refl and refl and refl and refl and refl and refl and refl and refl and refl and refl and refl and refl and refl and refl and refl and refl and refl and refl and refl and refl and refl and refl and refl and refl and refl and refl and refl and refl and refl and refl and refl and refl and refl and refl and refl and refl and refl and refl and refl and refl and refl and refl and refl and refl and refl and refl and refl and refl and refl and refl and refl and refl and refl and refl and refl and refl and refl and refl and refl and refl and refl and refl and refl and refl and refl and refl and refl and refl and refl and refl and refl and refl and refl and refl and refl and refl and refl and refl and refl and refl and refl and refl and refl and refl and refl and refl and refl and refl and refl and refl and refl and refl and refl and refl and refl and refl and refl and refl and refl and refl and refl and tt
 
--- the answers of the trace `mixed`
 pub answers : List Row
 answers =
     row 1 (judge mixed) (given (record { facilities = 6; changes = 5; end = 242; timescale = negsuc 11; initial = 1 }))
@@ -195,4 +194,4 @@ answers =
 pub answers-hold : Holds answers
 unfolding everything trace mixed spelled endItem nearerEnd answers
 answers-hold =
-    (refl, (refl, (refl, (refl, (refl, (refl, (refl, (refl, (refl, (refl, (refl, (refl, (refl, (refl, (refl, (refl, (refl, (refl, (refl, (refl, (refl, tt)))))))))))))))))))))
+    refl and refl and refl and refl and refl and refl and refl and refl and refl and refl and refl and refl and refl and refl and refl and refl and refl and refl and refl and refl and refl and tt
