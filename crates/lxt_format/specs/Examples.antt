@@ -18,7 +18,6 @@ use Rattle.lxt_format.specs.Traces.{spelled, with32, trace, syncEntry, f
 use Rattle.lxt_format.specs.declared.Pair.{Pair}
 use Rattle.lxt_format.specs.declared.Kind.the-variants.{Bits}
 
-infixr 2 _and_
 -- a row of a table: its number, what the definitions give, and what it is to be
 pub data Row : Type 1 where
   row : ℕ → {A : Type 0} → A → A → Row
@@ -27,10 +26,6 @@ pub data Row : Type 1 where
 abbrev pub Holds : List Row → Type 0
 Holds [] = Unit {0}
 Holds (row k x y ∷ rows) = (x ≡ y) × Holds rows
-
--- what shows a row, and what shows those after it
-abbrev pub _and_ : {A B : Type 0} → A → B → A × B
-a and b = (a, b)
 
 abbrev pub pair : ℕ → ℕ → Pair
 pair f o = record { number = f; offset = o }
@@ -84,7 +79,8 @@ table =
     ∷ row 12 (fileRefusal (facilitiesNamed 2 12 (afterAlpha 6))) 10
     ∷ []
 
+-- a pair for each row, so that an error names the row and both values
 pub examples : Holds table
 unfolding everything trace spelled table
 examples =
-    refl and refl and refl and refl and refl and refl and refl and refl and refl and refl and refl and refl and refl and refl and refl and refl and refl and refl and refl and refl and refl and refl and refl and refl and refl and refl and tt
+    (refl, (refl, (refl, (refl, (refl, (refl, (refl, (refl, (refl, (refl, (refl, (refl, (refl, (refl, (refl, (refl, (refl, (refl, (refl, (refl, (refl, (refl, (refl, (refl, (refl, (refl, tt))))))))))))))))))))))))))

@@ -41,7 +41,10 @@ trace =
 abbrev pub version : ℕ
 version = 2
 
--- the command byte and the delta of its newest change,
+-- the delta of its oldest change, the command byte and the delta of its newest,
+abbrev pub oldestDelta : ℕ
+oldestDelta = 5
+
 abbrev pub newestCommand : ℕ
 newestCommand = 6
 
@@ -216,22 +219,39 @@ mixed =
     -- last byte
     ++ spelled 1 0xB4
 
--- its places: of the change at 5 the delta and the data,
+-- its places: of the changes at 5 and 8 the command byte and the delta,
+abbrev pub command5 : ℕ
+command5 = 5
+
 abbrev pub delta5 : ℕ
 delta5 = 6
 
-abbrev pub data5 : ℕ
-data5 = 7
-
--- the command bytes of the changes at 8 and 37, and the last data byte of the change at 29,
 abbrev pub command8 : ℕ
 command8 = 8
+
+abbrev pub delta8 : ℕ
+delta8 = 9
+
+-- the command bytes of the changes at 14, 24 and 37,
+abbrev pub command14 : ℕ
+command14 = 14
+
+abbrev pub command24 : ℕ
+command24 = 24
 
 abbrev pub command37 : ℕ
 command37 = 37
 
+-- the last data byte of the changes at 5 and 29,
+abbrev pub data5 : ℕ
+data5 = 7
+
 abbrev pub data29 : ℕ
 data29 = 33
+
+-- the count of time entries,
+abbrev pub entriesOfMixed : ℕ
+entriesOfMixed = 39
 
 -- of facility f the sync entry, the rows and the flags,
 abbrev pub syncOfMixed : ℕ → ℕ
