@@ -10,10 +10,12 @@ use Rattle.lxt_format.specs.Limits.{longestFile}
 use Rattle.lxt_format.specs.Basics.{_unless_, Answer, given, refused, range}
 use Rattle.lxt_format.specs.Sections.{countAllowed}
 use Rattle.lxt_format.specs.Names.{nameOf}
-use Rattle.lxt_format.specs.Judge.{judge, fileRefusal}
+use Rattle.lxt_format.specs.Changes.{previousOf}
+use Rattle.lxt_format.specs.Values.{symbolOf}
+use Rattle.lxt_format.specs.Judge.{judge, allChanges, endAt, fileRefusal}
 use Rattle.lxt_format.specs.Walk.{fullList}
 use Rattle.lxt_format.specs.Answers.{bitsOf, realOf, textOf, nothing}
-use Rattle.lxt_format.specs.Questions.{factsAsked, rootAsked, nameAsked, nameBuffer, beforeAsked, changeAsked, changeBuffer, valueAsked, valueBuffer, startAsked, startRecord, carryAsked, carryRecord, carryOutput}
+use Rattle.lxt_format.specs.Questions.{factsAsked, rootAsked, nameAsked, namePart, nameBuffer, beforeAsked, changeAsked, changeBuffer, valueAsked, valueBuffer, startAsked, startRecord, carryAsked, carryRecord, carryOutput}
 use Rattle.lxt_format.specs.Everything.{everything}
 use Rattle.lxt_format.specs.Traces.{spelled, with16, with32, trace, version, oldestDelta, newestCommand, newestDelta, nameMemory, namePrefix, nameZero, rows, msb, lsb, flags, syncEntry, entries, firstOfTimes, lastOfTimes, positionDelta0, positionDelta1, timeDelta0, timeDelta1, changesValue, syncValue, namesValue, geometryValue, timesValue, lastByte, facilitiesNamed, mixed, command5, delta5, data5, command8, delta8, command14, command24, data29, command37, entriesOfMixed, syncOfMixed, rowsOfMixed, flagsOfMixed, timescaleByte, initialByte, realTest, testValue}
 use Rattle.lxt_format.specs.Examples.{Row, row, Holds, pair}
@@ -30,6 +32,15 @@ endItem x = take lastByte trace ++ spelled 5 x ++ (0xB4 ∷ [])
 nearerEnd : ℕ → List ℕ → List ℕ
 unfolding spelled
 nearerEnd x s = take changesValue s ++ spelled 5 x ++ drop changesValue s
+
+-- a trace without facilities, END at 24, with its times at o
+abbrev timesAt : ℕ → List ℕ
+timesAt o = with32 (facilitiesNamed 0 0 []) 45 o
+
+-- the trace `mixed` with its real test past END, in two more items of the section list
+testPastEnd : List ℕ
+unfolding mixed spelled
+testPastEnd = with32 (take 243 mixed ++ spelled 10 0x6E861BF040F921090020 ++ drop 243 mixed) (testValue + 10) 243
 
 -- the prefix length and the zero around a name of k bytes
 abbrev longName : ℕ → List ℕ
@@ -94,10 +105,15 @@ neighbours =
     ∷ row 8 (fileRefusal (with32 (with32 trace changesValue 68) syncEntry 0)) 0
     ∷ row 8 (fileRefusal (with32 trace changesValue 68)) 15
     ∷ row 8 (fileRefusal (with32 trace syncValue 65)) 8
+    ∷ row 8 (fileRefusal (with32 trace syncValue 64)) 0
     ∷ row 8 (fileRefusal (with32 trace syncValue 3)) 8
     ∷ row 8 (fileRefusal (with32 trace namesValue 61)) 8
+    ∷ row 8 (fileRefusal (with32 trace namesValue 60)) 0
     ∷ row 8 (fileRefusal (with32 trace geometryValue 53)) 8
+    ∷ row 8 (fileRefusal (with32 trace geometryValue 52)) 11
     ∷ row 8 (fileRefusal (with32 trace timesValue 41)) 8
+    ∷ row 8 (fileRefusal (timesAt 13)) 8
+    ∷ row 8 (fileRefusal (timesAt 12)) 0
     ∷ row 8 (fileRefusal (endItem 0x0000004405)) 8
     ∷ row 8 (fileRefusal (endItem 0x0000004305)) 0
     ∷ row 8 (fileRefusal (endItem 0x0000004407)) 8
@@ -151,16 +167,21 @@ neighbours =
     ∷ row 14 (fileRefusal (with32 mixed testValue 0)) 14
     ∷ row 14 (fileRefusal (with32 mixed testValue 235)) 14
     ∷ row 14 (fileRefusal (with32 mixed testValue 3)) 14
+    ∷ row 14 (fileRefusal testPastEnd) 14
     ∷ row 14 (fileRefusal (with32 (with32 mixed (flagsOfMixed 2) 4) testValue 0)) 0
     ∷ row 15 (fileRefusal (with32 trace syncEntry 3)) 15
     ∷ row 15 (fileRefusal (with32 trace syncEntry 67)) 15
+    ∷ row 15 (fileRefusal (with32 (with32 (with32 trace timeDelta1 0x033A) lastOfTimes 0x033A) syncEntry 66)) 0
     ∷ row 15 (fileRefusal (with32 trace syncEntry 68)) 15
     ∷ row 15 (fileRefusal (set trace newestDelta 3)) 15
     ∷ row 15 (fileRefusal (set mixed delta5 2)) 15
     ∷ row 15 (fileRefusal (set mixed delta8 2)) 15
     ∷ row 15 (fileRefusal (set (set mixed delta5 2) command37 5)) 15
     ∷ row 15 (fileRefusal (set trace oldestDelta 1)) 15
+    ∷ row 15 (previousOf (replicate 0x1000 0 ++ spelled 4 0x20000210) 0x1000) 0x0DEE
+    ∷ row 15 (previousOf (replicate 0x1000 0 ++ spelled 5 0x3000000210) 0x1000) 0x0DEE
     ∷ row 16 (fileRefusal (set trace newestCommand 0x43)) 16
+    ∷ row 16 (fileRefusal (set trace newestCommand 0x40)) 16
     ∷ row 16 (fileRefusal (set trace newestCommand 0x83)) 16
     ∷ row 16 (fileRefusal (with32 (with32 (with32 trace timeDelta1 0x45) lastOfTimes 0x45) syncEntry 67)) 16
     ∷ row 16 (fileRefusal (set trace newestCommand 0x0C)) 16
@@ -180,11 +201,13 @@ neighbours =
     ∷ row 16 (fileRefusal (set mixed command37 5)) 16
     ∷ row 16 (fileRefusal (set mixed command37 3)) 0
     ∷ row 16 (fileRefusal (set mixed command14 0x0F)) 0
+    ∷ row 16 (fileRefusal (with32 (set mixed command14 0x3F) (command14 + 1) 12)) 17
     ∷ row 16 (fileRefusal (set mixed command14 0x4F)) 16
     ∷ row 16 (fileRefusal (set mixed command24 0x0F)) 0
     ∷ row 16 (fileRefusal (set mixed command24 0x4F)) 16
     ∷ row 17 (fileRefusal (with32 trace syncEntry 7)) 17
     ∷ row 17 (fileRefusal (with32 mixed (syncOfMixed 4) 0)) 0
+    ∷ row 17 (map (endAt mixed) (allChanges mixed)) (34 ∷ 8 ∷ 39 ∷ 14 ∷ 24 ∷ 37 ∷ 29 ∷ [])
     ∷ row 17 (fileRefusal (twoTexts 24)) 17
     ∷ row 17 (fileRefusal (twoTexts 14)) 0
     ∷ row 18 (rootAsked trace 0) (given 0)
@@ -220,9 +243,9 @@ neighbours =
     ∷ []
 
 pub neighbours-hold : Holds neighbours
-unfolding everything trace mixed spelled endItem nearerEnd quiet twoTexts neighbours
+unfolding everything trace mixed spelled endItem nearerEnd testPastEnd quiet twoTexts neighbours
 neighbours-hold =
-    (refl, (refl, (refl, (refl, (refl, (refl, (refl, (refl, (refl, (refl, (refl, (refl, (refl, (refl, (refl, (refl, (refl, (refl, (refl, (refl, (refl, (refl, (refl, (refl, (refl, (refl, (refl, (refl, (refl, (refl, (refl, (refl, (refl, (refl, (refl, (refl, (refl, (refl, (refl, (refl, (refl, (refl, (refl, (refl, (refl, (refl, (refl, (refl, (refl, (refl, (refl, (refl, (refl, (refl, (refl, (refl, (refl, (refl, (refl, (refl, (refl, (refl, (refl, (refl, (refl, (refl, (refl, (refl, (refl, (refl, (refl, (refl, (refl, (refl, (refl, (refl, (refl, (refl, (refl, (refl, (refl, (refl, (refl, (refl, (refl, (refl, (refl, (refl, (refl, (refl, (refl, (refl, (refl, (refl, (refl, (refl, (refl, (refl, (refl, (refl, (refl, (refl, (refl, (refl, (refl, (refl, (refl, (refl, (refl, (refl, (refl, (refl, (refl, (refl, (refl, (refl, (refl, (refl, (refl, (refl, (refl, (refl, (refl, (refl, (refl, (refl, (refl, (refl, (refl, (refl, (refl, (refl, (refl, (refl, (refl, (refl, (refl, (refl, (refl, (refl, (refl, (refl, (refl, (refl, (refl, (refl, (refl, (refl, (refl, (refl, (refl, (refl, (refl, (refl, (refl, (refl, (refl, tt)))))))))))))))))))))))))))))))))))))))))))))))))))))))))))))))))))))))))))))))))))))))))))))))))))))))))))))))))))))))))))))))))))))))))))))))))))))))))))))
+    (refl, (refl, (refl, (refl, (refl, (refl, (refl, (refl, (refl, (refl, (refl, (refl, (refl, (refl, (refl, (refl, (refl, (refl, (refl, (refl, (refl, (refl, (refl, (refl, (refl, (refl, (refl, (refl, (refl, (refl, (refl, (refl, (refl, (refl, (refl, (refl, (refl, (refl, (refl, (refl, (refl, (refl, (refl, (refl, (refl, (refl, (refl, (refl, (refl, (refl, (refl, (refl, (refl, (refl, (refl, (refl, (refl, (refl, (refl, (refl, (refl, (refl, (refl, (refl, (refl, (refl, (refl, (refl, (refl, (refl, (refl, (refl, (refl, (refl, (refl, (refl, (refl, (refl, (refl, (refl, (refl, (refl, (refl, (refl, (refl, (refl, (refl, (refl, (refl, (refl, (refl, (refl, (refl, (refl, (refl, (refl, (refl, (refl, (refl, (refl, (refl, (refl, (refl, (refl, (refl, (refl, (refl, (refl, (refl, (refl, (refl, (refl, (refl, (refl, (refl, (refl, (refl, (refl, (refl, (refl, (refl, (refl, (refl, (refl, (refl, (refl, (refl, (refl, (refl, (refl, (refl, (refl, (refl, (refl, (refl, (refl, (refl, (refl, (refl, (refl, (refl, (refl, (refl, (refl, (refl, (refl, (refl, (refl, (refl, (refl, (refl, (refl, (refl, (refl, (refl, (refl, (refl, (refl, (refl, (refl, (refl, (refl, (refl, (refl, (refl, (refl, (refl, (refl, (refl, tt)))))))))))))))))))))))))))))))))))))))))))))))))))))))))))))))))))))))))))))))))))))))))))))))))))))))))))))))))))))))))))))))))))))))))))))))))))))))))))))))))))))))))
 
 pub answers : List Row
 answers =
@@ -245,6 +268,8 @@ answers =
     ∷ row 5 (changeAsked mixed 4 29 3) (10, given (bitsOf 3))
     ∷ row 5 (changeBuffer mixed 4 29 (replicate 4 0xFF)) (spelled 4 0x48552DFF)
     ∷ row 5 (changeBuffer mixed 0 5 (replicate 3 0xFF)) (spelled 3 0x5A5831)
+    ∷ row 5 (changeBuffer mixed 0 5 (replicate 2 0xFF)) (replicate 2 0xFF)
+    ∷ row 5 (map symbolOf (range 0 9)) (spelled 9 0x30315A584855574C2D)
     ∷ row 6 (changeAsked mixed 2 14 0) (10, given (realOf (ofBits binary64 0x3FF8000000010203) 0x3FF8000000010203))
     ∷ row 7 (changeAsked mixed 3 24 0) (10, given (textOf 26 2))
     ∷ row 7 (changeAsked mixed 3 34 0) (20, given (textOf 36 0))
@@ -256,18 +281,24 @@ answers =
     ∷ row 8 (valueBuffer mixed 5 4294967295 (replicate 4 0xFF)) (spelled 4 0x48552DFF)
     ∷ row 9 (valueBuffer mixed 1 19 (replicate 33 0xFF)) (spelled 33 0x3030303030303030303030303030303030303030303030313030303030303130FF)
     ∷ row 9 (valueBuffer mixed 1 20 (replicate 33 0xFF)) (replicate 32 0x31 ++ (0xFF ∷ []))
+    ∷ row 9 (valueBuffer mixed 1 20 (replicate 31 0xFF)) (replicate 31 0xFF)
     ∷ row 10 (fullList mixed (replicate 6 1)) (pair 1 37 ∷ pair 3 34 ∷ pair 0 29 ∷ pair 3 24 ∷ pair 2 14 ∷ pair 1 8 ∷ pair 0 5 ∷ [])
     ∷ row 10 (fullList mixed (0 ∷ 0 ∷ 0 ∷ 0 ∷ 9 ∷ 0 ∷ [])) (pair 0 29 ∷ pair 0 5 ∷ [])
     ∷ row 10 (fullList (twoTexts 24) (0 ∷ 0 ∷ 1 ∷ 1 ∷ 0 ∷ 0 ∷ [])) (pair 3 34 ∷ pair 2 24 ∷ pair 3 24 ∷ [])
     ∷ row 10 (carryOutput mixed (pendingAt 14 14) 1 (replicate 3 0xFF)) (2 ∷ 14 ∷ 0xFF ∷ [])
     ∷ row 10 (carryAsked mixed (pendingAt 14 14) 2 4) (given (2, true))
     ∷ row 10 (carryRecord mixed (pendingAt 14 34) 1 2) (pendingAt 14 24)
+    ∷ row 10 (carryRecord mixed (pendingAt 14 34) 1 1) (pendingAt 14 34)
+    ∷ row 10 (carryOutput mixed (pendingAt 14 34) 1 (0xFF ∷ [])) (0xFF ∷ [])
     ∷ row 11 (startRecord mixed (0 ∷ 0 ∷ 1 ∷ 0 ∷ 1 ∷ 1 ∷ []) (replicate 7 (pair 9 9))) (pair 0 29 ∷ pair 1 0 ∷ pair 2 14 ∷ pair 3 0 ∷ pair 4 0 ∷ pair 5 0 ∷ pair 9 9 ∷ [])
+    ∷ row 11 (startRecord mixed (0 ∷ []) (replicate 7 (pair 9 9))) (replicate 7 (pair 9 9))
     ∷ row 12 (nameBuffer mixed 5 (replicate 1025 0xFF)) (spelled 4 0x636C6B33 ++ replicate 1019 0 ++ (0xFF ∷ 0xFF ∷ []))
     ∷ row 12 (nameBuffer mixed 6 (replicate 1025 0xFF)) (replicate 1025 0xFF)
+    ∷ row 12 (namePart mixed 5 1023) (spelled 4 0x636C6B33)
+    ∷ row 12 (namePart mixed 5 1022) []
     ∷ []
 
 pub answers-hold : Holds answers
 unfolding everything trace mixed spelled twoTexts answers
 answers-hold =
-    (refl, (refl, (refl, (refl, (refl, (refl, (refl, (refl, (refl, (refl, (refl, (refl, (refl, (refl, (refl, (refl, (refl, (refl, (refl, (refl, (refl, (refl, (refl, (refl, (refl, (refl, (refl, (refl, (refl, (refl, (refl, (refl, (refl, (refl, (refl, (refl, (refl, (refl, (refl, tt)))))))))))))))))))))))))))))))))))))))
+    (refl, (refl, (refl, (refl, (refl, (refl, (refl, (refl, (refl, (refl, (refl, (refl, (refl, (refl, (refl, (refl, (refl, (refl, (refl, (refl, (refl, (refl, (refl, (refl, (refl, (refl, (refl, (refl, (refl, (refl, (refl, (refl, (refl, (refl, (refl, (refl, (refl, (refl, (refl, (refl, (refl, (refl, (refl, (refl, (refl, (refl, (refl, tt)))))))))))))))))))))))))))))))))))))))))))))))
