@@ -1,20 +1,20 @@
 -- Paper 01, "A whole small trace, and its neighbours": P1 to P12, as one table under one statement.
 use Prim.Native.Nat.{ℕ}
 use mathlib.Core.Path.{_≡_, refl}
-use mathlib.Core.Bool.{true, false}
+use mathlib.Core.Bool.{true}
 use mathlib.Core.List.{List, [], _∷_, _++_, map}
-use mathlib.Core.Option.{none, some}
+use mathlib.Core.Option.{some}
 use lib.ListN.{set, replicate}
 use lib.IntN.{pos, negsuc}
 use Rattle.lxt_format.specs.Basics.{given}
-use Rattle.lxt_format.specs.Names.{namesIn, withinMemory, nameOf}
+use Rattle.lxt_format.specs.Names.{namesIn, nameOf}
 use Rattle.lxt_format.specs.Changes.{previousOf, unpack}
 use Rattle.lxt_format.specs.Values.{symbolOf}
 use Rattle.lxt_format.specs.Judge.{judge, fileRefusal, chainsRefusal}
 use Rattle.lxt_format.specs.Walk.{fullList}
 use Rattle.lxt_format.specs.Questions.{factsAsked, valueBuffer, startRecord, carryAsked, carryOutput}
 use Rattle.lxt_format.specs.Everything.{everything}
-use Rattle.lxt_format.specs.Traces.{spelled, trace}
+use Rattle.lxt_format.specs.Traces.{spelled, with32, trace, syncEntry, facilitiesNamed}
 use Rattle.lxt_format.specs.declared.Pair.{Pair}
 use Rattle.lxt_format.specs.declared.Kind.the-variants.{Bits}
 
@@ -64,21 +64,23 @@ table =
     ∷ row 4 (fullList (delta 0x04) (1 ∷ [])) (pair 0 6 ∷ [])
     ∷ row 5 (fileRefusal (delta 0x01)) 15
     ∷ row 6 (fileRefusal (delta 0x05)) 15
-    ∷ row 7 (fileRefusal (set trace 39 7)) 17
-    ∷ row 7 (chainsRefusal (set trace 39 7)) 0
-    ∷ row 7 (fullList (set trace 39 7) (1 ∷ [])) (pair 0 7 ∷ pair 0 5 ∷ [])
+    ∷ row 7 (fileRefusal (with32 trace syncEntry 7)) 17
+    ∷ row 7 (chainsRefusal (with32 trace syncEntry 7)) 0
+    ∷ row 7 (fullList (with32 trace syncEntry 7) (1 ∷ [])) (pair 0 7 ∷ pair 0 5 ∷ [])
     ∷ row 8 (fileRefusal (spelled 6 0x0138000400B4)) 7
     ∷ row 9 (previousOf (replicate 0x1000 0 ++ spelled 3 0x100210) 0x1000) 0x0DEE
     ∷ row 10 (map symbolOf (unpack 1 11 (spelled 2 0xFE60))) (spelled 11 0x3131313131313130303131)
     ∷ row 10 (map symbolOf (unpack 2 3 (spelled 1 0xB4))) (spelled 3 0x5A5831)
     ∷ row 11 (namesIn 4 fourNames []) (some (alpha ∷ spelled 5 0x6170706C65 ∷ spelled 11 0x6170706C69636174696F6E ∷ spelled 4 0x7A65726F ∷ []))
-    ∷ row 11 (withinMemory 29 (namesIn 4 fourNames [])) true
-    ∷ row 11 (withinMemory 28 (namesIn 4 fourNames [])) false
+    ∷ row 11 (fileRefusal (facilitiesNamed 4 29 fourNames)) 0
+    ∷ row 11 (fileRefusal (facilitiesNamed 4 28 fourNames)) 10
     ∷ row 12 (namesIn 2 (afterAlpha 5) []) (some (alpha ∷ alpha ∷ []))
-    ∷ row 12 (namesIn 2 (afterAlpha 6) []) none
+    ∷ row 12 (fileRefusal (facilitiesNamed 2 12 (afterAlpha 5))) 0
+    ∷ row 12 (fileRefusal (facilitiesNamed 2 12 (afterAlpha 6))) 10
     ∷ []
 
+-- a pair for each row, so that an error names the row and both values
 pub examples : Holds table
 unfolding everything trace spelled table
 examples =
-    (refl, (refl, (refl, (refl, (refl, (refl, (refl, (refl, (refl, (refl, (refl, (refl, (refl, (refl, (refl, (refl, (refl, (refl, (refl, (refl, (refl, (refl, (refl, (refl, (refl, tt)))))))))))))))))))))))))
+    (refl, (refl, (refl, (refl, (refl, (refl, (refl, (refl, (refl, (refl, (refl, (refl, (refl, (refl, (refl, (refl, (refl, (refl, (refl, (refl, (refl, (refl, (refl, (refl, (refl, (refl, tt))))))))))))))))))))))))))

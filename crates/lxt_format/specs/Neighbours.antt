@@ -1,33 +1,68 @@
 -- That each rule does something: for each refusal number files and questions on either side of the rule, and the answers of a trace with every kind.
-use Prim.Native.Nat.{ℕ}
+use Prim.Native.Nat.{ℕ, _+_}
 use mathlib.Core.Path.{refl}
 use mathlib.Core.Bool.{true, false}
 use mathlib.Core.List.{List, [], _∷_, _++_, map}
 use lib.ListN.{set, take, drop, replicate}
-use lib.IntN.{pos, negsuc}
+use lib.IntN.{ℤ, pos, negsuc}
 use lib.Ieee.{binary64, ofBits}
-use Rattle.lxt_format.specs.Basics.{_unless_, given, refused, range}
+use Rattle.lxt_format.specs.Limits.{longestFile}
+use Rattle.lxt_format.specs.Basics.{_unless_, Answer, given, refused, range}
 use Rattle.lxt_format.specs.Sections.{countAllowed}
 use Rattle.lxt_format.specs.Names.{nameOf}
-use Rattle.lxt_format.specs.Judge.{judge, fileRefusal}
+use Rattle.lxt_format.specs.Changes.{previousOf}
+use Rattle.lxt_format.specs.Values.{symbolOf}
+use Rattle.lxt_format.specs.Judge.{judge, allChanges, endAt, fileRefusal}
 use Rattle.lxt_format.specs.Walk.{fullList}
 use Rattle.lxt_format.specs.Answers.{bitsOf, realOf, textOf, nothing}
-use Rattle.lxt_format.specs.Questions.{factsAsked, rootAsked, nameAsked, nameBuffer, beforeAsked, changeAsked, changeBuffer, valueAsked, valueBuffer, startAsked, startRecord, carryAsked}
+use Rattle.lxt_format.specs.Questions.{factsAsked, rootAsked, nameAsked, namePart, nameBuffer, beforeAsked, changeAsked, changeBuffer, valueAsked, valueBuffer, startAsked, startRecord, carryAsked, carryRecord, carryOutput}
 use Rattle.lxt_format.specs.Everything.{everything}
-use Rattle.lxt_format.specs.Traces.{spelled, trace, mixed}
+use Rattle.lxt_format.specs.Traces.{spelled, with16, with32, trace, version, oldestDelta, newestCommand, newestDelta, nameMemory, namePrefix, nameZero, rows, msb, lsb, flags, syncEntry, entries, firstOfTimes, lastOfTimes, positionDelta0, positionDelta1, timeDelta0, timeDelta1, changesValue, syncValue, namesValue, geometryValue, timesValue, lastByte, facilitiesNamed, mixed, command5, delta5, data5, command8, delta8, command14, command24, data29, command37, entriesOfMixed, syncOfMixed, rowsOfMixed, flagsOfMixed, timescaleByte, initialByte, realTest, testValue}
 use Rattle.lxt_format.specs.Examples.{Row, row, Holds, pair}
+use Rattle.lxt_format.specs.declared.Summary.{Summary}
 use Rattle.lxt_format.specs.declared.Pair.{Pair}
-use Rattle.lxt_format.specs.declared.Kind.the-variants.{Bits, Integer}
+use Rattle.lxt_format.specs.declared.Kind.the-variants.{Bits, Integer, Real, Text}
 
 -- the small trace with one more item of the section list, next to the last byte
 endItem : ℕ → List ℕ
 unfolding trace spelled
-endItem x = take 94 trace ++ spelled 5 x ++ (0xB4 ∷ [])
+endItem x = take lastByte trace ++ spelled 5 x ++ (0xB4 ∷ [])
 
 -- a file with END at 68 with one more item, next to END
 nearerEnd : ℕ → List ℕ → List ℕ
 unfolding spelled
-nearerEnd x s = take 69 s ++ spelled 5 x ++ drop 69 s
+nearerEnd x s = take changesValue s ++ spelled 5 x ++ drop changesValue s
+
+-- a trace without facilities, END at 24, with its times at o
+abbrev timesAt : ℕ → List ℕ
+timesAt o = with32 (facilitiesNamed 0 0 []) 45 o
+
+-- the trace `mixed` with its real test past END, in two more items of the section list
+testPastEnd : List ℕ
+unfolding mixed spelled
+testPastEnd = with32 (take 243 mixed ++ spelled 10 0x6E861BF040F921090020 ++ drop 243 mixed) (testValue + 10) 243
+
+-- the prefix length and the zero around a name of k bytes
+abbrev longName : ℕ → List ℕ
+longName k = spelled 2 0 ++ replicate k 0x61 ++ (0 ∷ [])
+
+-- the trace `mixed` in which no root has a change
+quiet : List ℕ
+unfolding mixed spelled
+quiet = with32 (with32 (with32 (with32 mixed (syncOfMixed 0) 0) (syncOfMixed 1) 0) (syncOfMixed 2) 0) (syncOfMixed 3) 0
+
+-- the trace `mixed` in which facility 2 is a text too, with its newest change at o
+twoTexts : ℕ → List ℕ
+unfolding mixed spelled
+twoTexts o = with32 (with32 mixed (flagsOfMixed 2) 4) (syncOfMixed 2) o
+
+-- what judging the trace `mixed` answers with that timescale and initial symbol
+abbrev judged : ℤ → ℕ → Answer Summary
+judged scale code = given (record { facilities = 6; changes = 5; end = 242; timescale = scale; initial = code })
+
+-- a record of the trace `mixed` in which the facilities 2 and 3 have pending offsets
+abbrev pendingAt : ℕ → ℕ → List Pair
+pendingAt o p = pair 0 0 ∷ pair 1 0 ∷ pair 2 o ∷ pair 3 p ∷ pair 4 0 ∷ pair 5 0 ∷ []
 
 -- a record of the trace `mixed` in which the alias 4 has the pending offset o
 abbrev pending : ℕ → List Pair
@@ -38,15 +73,17 @@ pub neighbours : List Row
 neighbours =
     row 1 (fileRefusal (spelled 5 0x01380004B4)) 1
     ∷ row 1 (fileRefusal (spelled 6 0x0138000400B4)) 7
+    ∷ row 1 longestFile 16777216
     ∷ row 2 (fileRefusal (set trace 0 0)) 2
     ∷ row 2 (fileRefusal (set trace 1 0x39)) 2
-    ∷ row 2 (fileRefusal (set trace 3 5)) 2
-    ∷ row 2 (fileRefusal (set trace 2 1)) 2
-    ∷ row 2 (fileRefusal (set trace 3 0)) 0
-    ∷ row 3 (fileRefusal (set trace 94 0xB5)) 3
+    ∷ row 2 (fileRefusal (with16 trace version 5)) 2
+    ∷ row 2 (fileRefusal (with16 trace version 0x0104)) 2
+    ∷ row 2 (fileRefusal (with16 trace version 0)) 0
+    ∷ row 3 (fileRefusal (set trace lastByte 0xB5)) 3
     ∷ row 3 (fileRefusal trace) 0
     ∷ row 4 (fileRefusal (spelled 6 0x0138000407B4)) 4
     ∷ row 4 (fileRefusal (spelled 10 0x01380004000000FF07B4)) 4
+    ∷ row 4 (fileRefusal (spelled 10 0x01380000000000FF07B4)) 4
     ∷ row 4 (fileRefusal (spelled 11 0x0138000400000000FF07B4)) 7
     ∷ row 5 (fileRefusal (endItem 0x0000000112)) 5
     ∷ row 5 (fileRefusal (endItem 0x000000010A)) 5
@@ -57,21 +94,26 @@ neighbours =
     ∷ row 6 (fileRefusal (endItem 0x0000000109)) 6
     ∷ row 6 (fileRefusal (endItem 0x0000000009)) 0
     ∷ row 6 (fileRefusal (nearerEnd 0x0000000009 (endItem 0x0000000109))) 0
-    ∷ row 7 (fileRefusal (set trace 72 0)) 7
-    ∷ row 7 (fileRefusal (set trace 77 0)) 7
-    ∷ row 7 (fileRefusal (set trace 82 0)) 7
-    ∷ row 7 (fileRefusal (set trace 87 0)) 7
-    ∷ row 7 (fileRefusal (set trace 92 0)) 7
+    ∷ row 7 (fileRefusal (with32 trace changesValue 0)) 7
+    ∷ row 7 (fileRefusal (with32 trace syncValue 0)) 7
+    ∷ row 7 (fileRefusal (with32 trace namesValue 0)) 7
+    ∷ row 7 (fileRefusal (with32 trace geometryValue 0)) 7
+    ∷ row 7 (fileRefusal (with32 trace timesValue 0)) 7
     ∷ row 7 (fileRefusal (nearerEnd 0x0000000001 trace)) 7
-    ∷ row 8 (fileRefusal (set trace 72 3)) 8
-    ∷ row 8 (fileRefusal (set trace 72 69)) 8
-    ∷ row 8 (fileRefusal (set (set trace 72 68) 39 0)) 0
-    ∷ row 8 (fileRefusal (set trace 72 68)) 15
-    ∷ row 8 (fileRefusal (set trace 77 65)) 8
-    ∷ row 8 (fileRefusal (set trace 77 3)) 8
-    ∷ row 8 (fileRefusal (set trace 82 61)) 8
-    ∷ row 8 (fileRefusal (set trace 87 53)) 8
-    ∷ row 8 (fileRefusal (set trace 92 41)) 8
+    ∷ row 8 (fileRefusal (with32 trace changesValue 3)) 8
+    ∷ row 8 (fileRefusal (with32 trace changesValue 69)) 8
+    ∷ row 8 (fileRefusal (with32 (with32 trace changesValue 68) syncEntry 0)) 0
+    ∷ row 8 (fileRefusal (with32 trace changesValue 68)) 15
+    ∷ row 8 (fileRefusal (with32 trace syncValue 65)) 8
+    ∷ row 8 (fileRefusal (with32 trace syncValue 64)) 0
+    ∷ row 8 (fileRefusal (with32 trace syncValue 3)) 8
+    ∷ row 8 (fileRefusal (with32 trace namesValue 61)) 8
+    ∷ row 8 (fileRefusal (with32 trace namesValue 60)) 0
+    ∷ row 8 (fileRefusal (with32 trace geometryValue 53)) 8
+    ∷ row 8 (fileRefusal (with32 trace geometryValue 52)) 11
+    ∷ row 8 (fileRefusal (with32 trace timesValue 41)) 8
+    ∷ row 8 (fileRefusal (timesAt 13)) 8
+    ∷ row 8 (fileRefusal (timesAt 12)) 0
     ∷ row 8 (fileRefusal (endItem 0x0000004405)) 8
     ∷ row 8 (fileRefusal (endItem 0x0000004305)) 0
     ∷ row 8 (fileRefusal (endItem 0x0000004407)) 8
@@ -80,69 +122,107 @@ neighbours =
     ∷ row 8 (fileRefusal (endItem 0x0000FF0008)) 0
     ∷ row 9 (9 unless countAllowed 4096) 0
     ∷ row 9 (9 unless countAllowed 4097) 9
-    ∷ row 10 (fileRefusal (set trace 15 1)) 10
-    ∷ row 10 (fileRefusal (set trace 17 1)) 10
-    ∷ row 10 (fileRefusal (set trace 19 0x61)) 10
-    ∷ row 10 (fileRefusal (set (set trace 19 0x61) 15 3)) 0
-    ∷ row 10 (fileRefusal (set trace 15 200)) 0
-    ∷ row 11 (fileRefusal (set trace 23 1)) 11
-    ∷ row 11 (fileRefusal (set trace 35 3)) 11
-    ∷ row 11 (fileRefusal (set trace 35 16)) 11
-    ∷ row 11 (fileRefusal (set (set trace 39 0) 26 0x10)) 11
-    ∷ row 11 (fileRefusal (set (set (set trace 39 0) 26 0x0F) 27 0xFF)) 0
-    ∷ row 11 (fileRefusal (set trace 35 4)) 17
-    ∷ row 12 (fileRefusal (set trace 35 8)) 12
-    ∷ row 12 (fileRefusal (set (set trace 35 8) 23 1)) 12
+    ∷ row 10 (fileRefusal (with32 trace nameMemory 1)) 10
+    ∷ row 10 (fileRefusal (with16 trace namePrefix 1)) 10
+    ∷ row 10 (fileRefusal (set trace nameZero 0x61)) 10
+    ∷ row 10 (fileRefusal (with32 (set trace nameZero 0x61) nameMemory 3)) 0
+    ∷ row 10 (fileRefusal (with32 trace nameMemory 200)) 0
+    ∷ row 10 (fileRefusal (facilitiesNamed 0 0 [])) 0
+    ∷ row 10 (fileRefusal (facilitiesNamed 1 9 (0 ∷ []))) 10
+    ∷ row 10 (fileRefusal (facilitiesNamed 1 9 (0 ∷ 0 ∷ []))) 10
+    ∷ row 10 (fileRefusal (facilitiesNamed 1 9 (0 ∷ 0 ∷ 0 ∷ []))) 0
+    ∷ row 10 (fileRefusal (facilitiesNamed 1 9 (0 ∷ 0 ∷ 0x61 ∷ []))) 10
+    ∷ row 10 (fileRefusal (facilitiesNamed 1 2000 (longName 1023))) 0
+    ∷ row 10 (fileRefusal (facilitiesNamed 1 2000 (longName 1024))) 10
+    ∷ row 11 (fileRefusal (with32 trace rows 1)) 11
+    ∷ row 11 (fileRefusal (with32 trace flags 3)) 11
+    ∷ row 11 (fileRefusal (with32 trace flags 16)) 11
+    ∷ row 11 (fileRefusal (with32 (with32 trace syncEntry 0) msb 4096)) 11
+    ∷ row 11 (fileRefusal (with32 (with32 trace syncEntry 0) msb 4095)) 0
+    ∷ row 11 (fileRefusal (with32 (with32 (with32 trace syncEntry 0) msb 0xFFFFFFFF) lsb 4095)) 11
+    ∷ row 11 (fileRefusal (with32 (with32 (with32 trace syncEntry 0) msb 0xFFFFFFFF) lsb 4094)) 0
+    ∷ row 11 (fileRefusal (with32 (with32 trace flags 1) msb 4096)) 0
+    ∷ row 11 (fileRefusal (with32 trace flags 4)) 17
+    ∷ row 12 (fileRefusal (with32 trace flags 8)) 12
+    ∷ row 12 (fileRefusal (with32 (with32 trace flags 8) rows 1)) 12
     ∷ row 12 (fileRefusal mixed) 0
-    ∷ row 12 (fileRefusal (set mixed 158 6)) 12
-    ∷ row 12 (fileRefusal (set mixed 174 4)) 12
-    ∷ row 12 (fileRefusal (set mixed 174 2)) 0
-    ∷ row 13 (fileRefusal (set trace 43 0)) 13
-    ∷ row 13 (fileRefusal (set (set trace 43 0) 39 0)) 0
-    ∷ row 13 (fileRefusal (set trace 55 3)) 13
-    ∷ row 13 (fileRefusal (set trace 55 5)) 0
-    ∷ row 13 (fileRefusal (set trace 59 0)) 13
-    ∷ row 13 (fileRefusal (set trace 59 64)) 13
-    ∷ row 13 (fileRefusal (set trace 59 63)) 0
-    ∷ row 13 (fileRefusal (set trace 67 0)) 13
-    ∷ row 13 (fileRefusal (set trace 51 4)) 13
-    ∷ row 13 (fileRefusal (set trace 47 1)) 13
-    ∷ row 13 (fileRefusal (set (set trace 63 1) 51 6)) 0
-    ∷ row 13 (fileRefusal (set (set (set (set trace 56 0xFF) 57 0xFF) 58 0xFF) 59 0xFF)) 13
-    ∷ row 14 (fileRefusal (set mixed 234 0x87)) 14
-    ∷ row 14 (fileRefusal (set (set mixed 235 0x6E) 236 0x1B)) 0
-    ∷ row 14 (fileRefusal (set mixed 281 0)) 14
-    ∷ row 14 (fileRefusal (set mixed 281 235)) 14
-    ∷ row 14 (fileRefusal (set mixed 281 3)) 14
-    ∷ row 15 (fileRefusal (set trace 39 3)) 15
-    ∷ row 15 (fileRefusal (set trace 39 67)) 15
-    ∷ row 15 (fileRefusal (set trace 39 68)) 15
-    ∷ row 15 (fileRefusal (set trace 7 3)) 15
-    ∷ row 15 (fileRefusal (set mixed 6 2)) 15
-    ∷ row 16 (fileRefusal (set trace 6 0x43)) 16
-    ∷ row 16 (fileRefusal (set trace 6 0x0C)) 16
-    ∷ row 16 (fileRefusal (set trace 6 0x0B)) 0
-    ∷ row 16 (fileRefusal (set mixed 7 0xB5)) 16
-    ∷ row 16 (fileRefusal (set mixed 7 0xB8)) 0
-    ∷ row 16 (fileRefusal (set mixed 33 0x90)) 16
-    ∷ row 16 (fileRefusal (set mixed 33 0x81)) 16
-    ∷ row 16 (fileRefusal (set mixed 33 0x70)) 0
-    ∷ row 16 (fileRefusal (set mixed 8 1)) 16
-    ∷ row 16 (fileRefusal (set mixed 37 5)) 16
-    ∷ row 16 (fileRefusal (set mixed 37 3)) 0
-    ∷ row 17 (fileRefusal (set trace 39 7)) 17
-    ∷ row 17 (fileRefusal (set mixed 86 0)) 0
+    ∷ row 12 (fileRefusal (with32 mixed (rowsOfMixed 4) 6)) 12
+    ∷ row 12 (fileRefusal (with32 mixed (rowsOfMixed 5) 4)) 12
+    ∷ row 12 (fileRefusal (with32 mixed (rowsOfMixed 5) 2)) 0
+    ∷ row 13 (fileRefusal (with32 trace entries 0)) 13
+    ∷ row 13 (fileRefusal (with32 (with32 trace entries 0) syncEntry 0)) 0
+    ∷ row 13 (fileRefusal (with32 quiet entriesOfMixed 0)) 0
+    ∷ row 13 (fileRefusal (with32 trace positionDelta0 3)) 13
+    ∷ row 13 (fileRefusal (with32 trace positionDelta0 5)) 0
+    ∷ row 13 (fileRefusal (with32 trace positionDelta1 0)) 13
+    ∷ row 13 (fileRefusal (with32 trace positionDelta1 64)) 13
+    ∷ row 13 (fileRefusal (with32 trace positionDelta1 63)) 0
+    ∷ row 13 (fileRefusal (with32 trace timeDelta1 0)) 13
+    ∷ row 13 (fileRefusal (with32 trace lastOfTimes 4)) 13
+    ∷ row 13 (fileRefusal (with32 trace firstOfTimes 1)) 13
+    ∷ row 13 (fileRefusal (with32 (with32 trace timeDelta0 1) lastOfTimes 6)) 0
+    ∷ row 13 (fileRefusal (with32 trace positionDelta1 0xFFFFFFFF)) 13
+    ∷ row 14 (fileRefusal (set mixed realTest 0x87)) 14
+    ∷ row 14 (fileRefusal (set (set mixed (realTest + 1) 0x6E) (realTest + 2) 0x1B)) 0
+    ∷ row 14 (fileRefusal (with32 mixed testValue 0)) 14
+    ∷ row 14 (fileRefusal (with32 mixed testValue 235)) 14
+    ∷ row 14 (fileRefusal (with32 mixed testValue 3)) 14
+    ∷ row 14 (fileRefusal testPastEnd) 14
+    ∷ row 14 (fileRefusal (with32 (with32 mixed (flagsOfMixed 2) 4) testValue 0)) 0
+    ∷ row 15 (fileRefusal (with32 trace syncEntry 3)) 15
+    ∷ row 15 (fileRefusal (with32 trace syncEntry 67)) 15
+    ∷ row 15 (fileRefusal (with32 (with32 (with32 trace timeDelta1 0x033A) lastOfTimes 0x033A) syncEntry 66)) 0
+    ∷ row 15 (fileRefusal (with32 trace syncEntry 68)) 15
+    ∷ row 15 (fileRefusal (set trace newestDelta 3)) 15
+    ∷ row 15 (fileRefusal (set mixed delta5 2)) 15
+    ∷ row 15 (fileRefusal (set mixed delta8 2)) 15
+    ∷ row 15 (fileRefusal (set (set mixed delta5 2) command37 5)) 15
+    ∷ row 15 (fileRefusal (set trace oldestDelta 1)) 15
+    ∷ row 15 (previousOf (replicate 0x1000 0 ++ spelled 4 0x20000210) 0x1000) 0x0DEE
+    ∷ row 15 (previousOf (replicate 0x1000 0 ++ spelled 5 0x3000000210) 0x1000) 0x0DEE
+    ∷ row 16 (fileRefusal (set trace newestCommand 0x43)) 16
+    ∷ row 16 (fileRefusal (set trace newestCommand 0x40)) 16
+    ∷ row 16 (fileRefusal (set trace newestCommand 0x83)) 16
+    ∷ row 16 (fileRefusal (with32 (with32 (with32 trace timeDelta1 0x45) lastOfTimes 0x45) syncEntry 67)) 16
+    ∷ row 16 (fileRefusal (set trace newestCommand 0x0C)) 16
+    ∷ row 16 (fileRefusal (set trace newestCommand 0x0B)) 0
+    ∷ row 16 (fileRefusal (set mixed data5 0xB5)) 16
+    ∷ row 16 (fileRefusal (set mixed data5 0xB8)) 0
+    ∷ row 16 (fileRefusal (set mixed command5 0)) 16
+    ∷ row 16 (fileRefusal (set (set mixed command5 0) data5 0xA0)) 0
+    ∷ row 16 (fileRefusal (set (set mixed data5 0xB5) delta5 2)) 16
+    ∷ row 16 (fileRefusal (with32 (set mixed data5 0xB5) (syncOfMixed 1) 3)) 16
+    ∷ row 16 (fileRefusal (set mixed data29 0x90)) 16
+    ∷ row 16 (fileRefusal (set mixed data29 0x81)) 16
+    ∷ row 16 (fileRefusal (set mixed data29 0x70)) 0
+    ∷ row 16 (fileRefusal (set (set mixed data29 0x90) delta5 2)) 16
+    ∷ row 16 (fileRefusal (set mixed command8 1)) 16
+    ∷ row 16 (fileRefusal (set mixed command8 2)) 16
+    ∷ row 16 (fileRefusal (set mixed command37 5)) 16
+    ∷ row 16 (fileRefusal (set mixed command37 3)) 0
+    ∷ row 16 (fileRefusal (set mixed command14 0x0F)) 0
+    ∷ row 16 (fileRefusal (with32 (set mixed command14 0x3F) (command14 + 1) 12)) 17
+    ∷ row 16 (fileRefusal (set mixed command14 0x4F)) 16
+    ∷ row 16 (fileRefusal (set mixed command24 0x0F)) 0
+    ∷ row 16 (fileRefusal (set mixed command24 0x4F)) 16
+    ∷ row 17 (fileRefusal (with32 trace syncEntry 7)) 17
+    ∷ row 17 (fileRefusal (with32 mixed (syncOfMixed 4) 0)) 0
+    ∷ row 17 (map (endAt mixed) (allChanges mixed)) (34 ∷ 8 ∷ 39 ∷ 14 ∷ 24 ∷ 37 ∷ 29 ∷ [])
+    ∷ row 17 (fileRefusal (twoTexts 24)) 17
+    ∷ row 17 (fileRefusal (twoTexts 14)) 0
     ∷ row 18 (rootAsked trace 0) (given 0)
     ∷ row 18 (rootAsked trace 1) (refused 18)
     ∷ row 19 (beforeAsked trace 0 6) (given 4)
     ∷ row 19 (beforeAsked trace 0 4) (given 0)
     ∷ row 19 (beforeAsked trace 0 5) (refused 19)
     ∷ row 19 (beforeAsked trace 0 0) (refused 19)
+    ∷ row 19 (beforeAsked mixed 4 29) (given 5)
     ∷ row 20 (carryAsked trace (pair 0 6 ∷ []) 1 2) (given (1, false))
     ∷ row 20 (carryAsked trace (pair 1 6 ∷ []) 1 2) (refused 20)
     ∷ row 20 (carryAsked trace (pair 0 3 ∷ []) 1 2) (refused 20)
     ∷ row 20 (carryAsked trace (pair 0 5 ∷ []) 1 2) (given (1, true))
     ∷ row 20 (carryAsked trace (pair 0 68 ∷ []) 1 2) (refused 20)
+    ∷ row 20 (carryAsked (set trace oldestDelta 1) (pair 0 6 ∷ []) 1 2) (refused 20)
     ∷ row 20 (carryAsked mixed (pending 0) 0 0) (given (0, true))
     ∷ row 20 (carryAsked mixed (pending 29) 0 0) (refused 20)
     ∷ row 21 (nameAsked trace 0 1023) (given 1)
@@ -156,43 +236,69 @@ neighbours =
     ∷ row 21 (carryAsked trace (pair 1 6 ∷ []) 1 1) (refused 20)
     ∷ row 21 (startAsked trace (1 ∷ []) 0) (refused 21)
     ∷ row 21 (startAsked trace [] 0) (refused 21)
+    ∷ row 21 (startAsked (set trace oldestDelta 1) [] 0) (refused 15)
     ∷ row 22 (startAsked trace (1 ∷ []) 1) (given tt)
     ∷ row 22 (startAsked trace [] 1) (refused 22)
     ∷ row 22 (startAsked trace (1 ∷ 1 ∷ []) 1) (refused 22)
     ∷ []
 
 pub neighbours-hold : Holds neighbours
-unfolding everything trace mixed spelled endItem nearerEnd neighbours
+unfolding everything trace mixed spelled endItem nearerEnd testPastEnd quiet twoTexts neighbours
 neighbours-hold =
-    (refl, (refl, (refl, (refl, (refl, (refl, (refl, (refl, (refl, (refl, (refl, (refl, (refl, (refl, (refl, (refl, (refl, (refl, (refl, (refl, (refl, (refl, (refl, (refl, (refl, (refl, (refl, (refl, (refl, (refl, (refl, (refl, (refl, (refl, (refl, (refl, (refl, (refl, (refl, (refl, (refl, (refl, (refl, (refl, (refl, (refl, (refl, (refl, (refl, (refl, (refl, (refl, (refl, (refl, (refl, (refl, (refl, (refl, (refl, (refl, (refl, (refl, (refl, (refl, (refl, (refl, (refl, (refl, (refl, (refl, (refl, (refl, (refl, (refl, (refl, (refl, (refl, (refl, (refl, (refl, (refl, (refl, (refl, (refl, (refl, (refl, (refl, (refl, (refl, (refl, (refl, (refl, (refl, (refl, (refl, (refl, (refl, (refl, (refl, (refl, (refl, (refl, (refl, (refl, (refl, (refl, (refl, (refl, (refl, (refl, (refl, (refl, (refl, (refl, (refl, (refl, (refl, (refl, (refl, (refl, (refl, (refl, (refl, tt)))))))))))))))))))))))))))))))))))))))))))))))))))))))))))))))))))))))))))))))))))))))))))))))))))))))))))))))))))))))))))
+    (refl, (refl, (refl, (refl, (refl, (refl, (refl, (refl, (refl, (refl, (refl, (refl, (refl, (refl, (refl, (refl, (refl, (refl, (refl, (refl, (refl, (refl, (refl, (refl, (refl, (refl, (refl, (refl, (refl, (refl, (refl, (refl, (refl, (refl, (refl, (refl, (refl, (refl, (refl, (refl, (refl, (refl, (refl, (refl, (refl, (refl, (refl, (refl, (refl, (refl, (refl, (refl, (refl, (refl, (refl, (refl, (refl, (refl, (refl, (refl, (refl, (refl, (refl, (refl, (refl, (refl, (refl, (refl, (refl, (refl, (refl, (refl, (refl, (refl, (refl, (refl, (refl, (refl, (refl, (refl, (refl, (refl, (refl, (refl, (refl, (refl, (refl, (refl, (refl, (refl, (refl, (refl, (refl, (refl, (refl, (refl, (refl, (refl, (refl, (refl, (refl, (refl, (refl, (refl, (refl, (refl, (refl, (refl, (refl, (refl, (refl, (refl, (refl, (refl, (refl, (refl, (refl, (refl, (refl, (refl, (refl, (refl, (refl, (refl, (refl, (refl, (refl, (refl, (refl, (refl, (refl, (refl, (refl, (refl, (refl, (refl, (refl, (refl, (refl, (refl, (refl, (refl, (refl, (refl, (refl, (refl, (refl, (refl, (refl, (refl, (refl, (refl, (refl, (refl, (refl, (refl, (refl, (refl, (refl, (refl, (refl, (refl, (refl, (refl, (refl, (refl, (refl, (refl, (refl, tt)))))))))))))))))))))))))))))))))))))))))))))))))))))))))))))))))))))))))))))))))))))))))))))))))))))))))))))))))))))))))))))))))))))))))))))))))))))))))))))))))))))))))
 
--- the answers of the trace `mixed`
 pub answers : List Row
 answers =
-    row 1 (judge mixed) (given (record { facilities = 6; changes = 5; end = 242; timescale = negsuc 11; initial = 1 }))
+    row 1 (judge mixed) (judged (negsuc 11) 1)
+    ∷ row 1 (judge (set mixed timescaleByte 0xEB)) (judged (negsuc 20) 1)
+    ∷ row 1 (judge (set mixed timescaleByte 0xEA)) (judged (negsuc 8) 1)
+    ∷ row 1 (judge (set mixed timescaleByte 0x02)) (judged (pos 2) 1)
+    ∷ row 1 (judge (set mixed timescaleByte 0x03)) (judged (negsuc 8) 1)
+    ∷ row 1 (judge (set mixed initialByte 8)) (judged (negsuc 11) 8)
+    ∷ row 1 (judge (set mixed initialByte 9)) (judged (negsuc 11) 3)
     ∷ row 2 (map (nameOf mixed) (range 0 6)) (spelled 3 0x636C6B ∷ spelled 5 0x636F756E74 ∷ spelled 4 0x766F6C74 ∷ spelled 3 0x6D7367 ∷ spelled 4 0x636C6B32 ∷ spelled 4 0x636C6B33 ∷ [])
     ∷ row 3 (map (rootAsked mixed) (range 0 6)) (map given (0 ∷ 1 ∷ 2 ∷ 3 ∷ 0 ∷ 0 ∷ []))
     ∷ row 4 (factsAsked mixed 4) (given (record { width = 3; msb = pos 2; lsb = pos 0; kind = Bits }))
     ∷ row 4 (factsAsked mixed 1) (given (record { width = 32; msb = pos 31; lsb = pos 0; kind = Integer }))
+    ∷ row 4 (factsAsked mixed 2) (given (record { width = 0; msb = pos 0; lsb = pos 0; kind = Real }))
+    ∷ row 4 (factsAsked mixed 3) (given (record { width = 0; msb = pos 0; lsb = pos 0; kind = Text }))
+    ∷ row 4 (factsAsked (with32 trace lsb 0xFFFFFFFF) 0) (given (record { width = 2; msb = pos 0; lsb = negsuc 0; kind = Bits }))
+    ∷ row 4 (factsAsked (with32 (with32 trace msb 0x7FFFFFFF) lsb 0x7FFFFFFE) 0) (given (record { width = 2; msb = pos 2147483647; lsb = pos 2147483646; kind = Bits }))
+    ∷ row 4 (factsAsked (with32 (with32 trace msb 0x80000000) lsb 0x80000000) 0) (given (record { width = 1; msb = negsuc 2147483647; lsb = negsuc 2147483647; kind = Bits }))
     ∷ row 5 (changeAsked mixed 4 29 3) (10, given (bitsOf 3))
     ∷ row 5 (changeBuffer mixed 4 29 (replicate 4 0xFF)) (spelled 4 0x48552DFF)
     ∷ row 5 (changeBuffer mixed 0 5 (replicate 3 0xFF)) (spelled 3 0x5A5831)
+    ∷ row 5 (changeBuffer mixed 0 5 (replicate 2 0xFF)) (replicate 2 0xFF)
+    ∷ row 5 (map symbolOf (range 0 9)) (spelled 9 0x30315A584855574C2D)
     ∷ row 6 (changeAsked mixed 2 14 0) (10, given (realOf (ofBits binary64 0x3FF8000000010203) 0x3FF8000000010203))
     ∷ row 7 (changeAsked mixed 3 24 0) (10, given (textOf 26 2))
     ∷ row 7 (changeAsked mixed 3 34 0) (20, given (textOf 36 0))
     ∷ row 8 (valueAsked mixed 3 9 0) (given nothing)
+    ∷ row 8 (valueAsked mixed 2 9 0) (given nothing)
+    ∷ row 8 (valueBuffer mixed 1 9 (replicate 33 0xFF)) (replicate 32 0x31 ++ (0xFF ∷ []))
+    ∷ row 8 (valueBuffer (set mixed initialByte 2) 1 9 (replicate 33 0xFF)) (replicate 32 0x5A ++ (0xFF ∷ []))
     ∷ row 8 (valueBuffer mixed 0 9 (replicate 4 0xFF)) (spelled 4 0x313131FF)
     ∷ row 8 (valueBuffer mixed 5 4294967295 (replicate 4 0xFF)) (spelled 4 0x48552DFF)
     ∷ row 9 (valueBuffer mixed 1 19 (replicate 33 0xFF)) (spelled 33 0x3030303030303030303030303030303030303030303030313030303030303130FF)
     ∷ row 9 (valueBuffer mixed 1 20 (replicate 33 0xFF)) (replicate 32 0x31 ++ (0xFF ∷ []))
+    ∷ row 9 (valueBuffer mixed 1 20 (replicate 31 0xFF)) (replicate 31 0xFF)
     ∷ row 10 (fullList mixed (replicate 6 1)) (pair 1 37 ∷ pair 3 34 ∷ pair 0 29 ∷ pair 3 24 ∷ pair 2 14 ∷ pair 1 8 ∷ pair 0 5 ∷ [])
     ∷ row 10 (fullList mixed (0 ∷ 0 ∷ 0 ∷ 0 ∷ 9 ∷ 0 ∷ [])) (pair 0 29 ∷ pair 0 5 ∷ [])
+    ∷ row 10 (fullList (twoTexts 24) (0 ∷ 0 ∷ 1 ∷ 1 ∷ 0 ∷ 0 ∷ [])) (pair 3 34 ∷ pair 2 24 ∷ pair 3 24 ∷ [])
+    ∷ row 10 (carryOutput mixed (pendingAt 14 14) 1 (replicate 3 0xFF)) (2 ∷ 14 ∷ 0xFF ∷ [])
+    ∷ row 10 (carryAsked mixed (pendingAt 14 14) 2 4) (given (2, true))
+    ∷ row 10 (carryRecord mixed (pendingAt 14 34) 1 2) (pendingAt 14 24)
+    ∷ row 10 (carryRecord mixed (pendingAt 14 34) 1 1) (pendingAt 14 34)
+    ∷ row 10 (carryOutput mixed (pendingAt 14 34) 1 (0xFF ∷ [])) (0xFF ∷ [])
     ∷ row 11 (startRecord mixed (0 ∷ 0 ∷ 1 ∷ 0 ∷ 1 ∷ 1 ∷ []) (replicate 7 (pair 9 9))) (pair 0 29 ∷ pair 1 0 ∷ pair 2 14 ∷ pair 3 0 ∷ pair 4 0 ∷ pair 5 0 ∷ pair 9 9 ∷ [])
+    ∷ row 11 (startRecord mixed (0 ∷ []) (replicate 7 (pair 9 9))) (replicate 7 (pair 9 9))
     ∷ row 12 (nameBuffer mixed 5 (replicate 1025 0xFF)) (spelled 4 0x636C6B33 ++ replicate 1019 0 ++ (0xFF ∷ 0xFF ∷ []))
     ∷ row 12 (nameBuffer mixed 6 (replicate 1025 0xFF)) (replicate 1025 0xFF)
+    ∷ row 12 (namePart mixed 5 1023) (spelled 4 0x636C6B33)
+    ∷ row 12 (namePart mixed 5 1022) []
     ∷ []
 
 pub answers-hold : Holds answers
-unfolding everything trace mixed spelled endItem nearerEnd answers
+unfolding everything trace mixed spelled twoTexts answers
 answers-hold =
-    (refl, (refl, (refl, (refl, (refl, (refl, (refl, (refl, (refl, (refl, (refl, (refl, (refl, (refl, (refl, (refl, (refl, (refl, (refl, (refl, (refl, tt)))))))))))))))))))))
+    (refl, (refl, (refl, (refl, (refl, (refl, (refl, (refl, (refl, (refl, (refl, (refl, (refl, (refl, (refl, (refl, (refl, (refl, (refl, (refl, (refl, (refl, (refl, (refl, (refl, (refl, (refl, (refl, (refl, (refl, (refl, (refl, (refl, (refl, (refl, (refl, (refl, (refl, (refl, (refl, (refl, (refl, (refl, (refl, (refl, (refl, (refl, tt)))))))))))))))))))))))))))))))))))))))))))))))

@@ -1,12 +1,22 @@
--- The traces that the examples are computed on.
-use Prim.Native.Nat.{ℕ}
+-- The traces that the examples are computed on, and where in them stands what the examples change.
+use Prim.Native.Nat.{ℕ, _+_, _*_}
 use mathlib.Core.List.{List, [], _++_}
+use lib.ListN.{take, drop, replicate}
 use Rattle.lxt_format.specs.Changes.{digits}
 
 -- k bytes, written as one number
 unfoldable pub spelled : ℕ → ℕ → List ℕ
 unfolding digits
 spelled k x = digits 8 k x
+
+-- a file in which the 16-bit number at o is x, and one in which the 32-bit number at o is x
+abbrev pub with16 : List ℕ → ℕ → ℕ → List ℕ
+with16 s o x = take o s ++ spelled 2 x ++ drop (o + 2) s
+
+abbrev pub with32 : List ℕ → ℕ → ℕ → List ℕ
+with32 s o x = take o s ++ spelled 4 x ++ drop (o + 4) s
+
+-- ---- a whole small trace
 
 -- "A whole small trace": 95 bytes, T = 68, C = 4
 unfoldable pub trace : List ℕ
@@ -26,6 +36,112 @@ trace =
     ++ spelled 5 0x0000001404
     ++ spelled 5 0x0000002806
     ++ spelled 1 0xB4
+
+-- its places: the version,
+abbrev pub version : ℕ
+version = 2
+
+-- the delta of its oldest change, the command byte and the delta of its newest,
+abbrev pub oldestDelta : ℕ
+oldestDelta = 5
+
+abbrev pub newestCommand : ℕ
+newestCommand = 6
+
+abbrev pub newestDelta : ℕ
+newestDelta = 7
+
+-- M, the prefix length and the zero of its name,
+abbrev pub nameMemory : ℕ
+nameMemory = 12
+
+abbrev pub namePrefix : ℕ
+namePrefix = 16
+
+abbrev pub nameZero : ℕ
+nameZero = 19
+
+-- its geometry and its sync entry,
+abbrev pub rows : ℕ
+rows = 20
+
+abbrev pub msb : ℕ
+msb = 24
+
+abbrev pub lsb : ℕ
+lsb = 28
+
+abbrev pub flags : ℕ
+flags = 32
+
+abbrev pub syncEntry : ℕ
+syncEntry = 36
+
+-- the head of its times, and its deltas,
+abbrev pub entries : ℕ
+entries = 40
+
+abbrev pub firstOfTimes : ℕ
+firstOfTimes = 44
+
+abbrev pub lastOfTimes : ℕ
+lastOfTimes = 48
+
+abbrev pub positionDelta0 : ℕ
+positionDelta0 = 52
+
+abbrev pub positionDelta1 : ℕ
+positionDelta1 = 56
+
+abbrev pub timeDelta0 : ℕ
+timeDelta0 = 60
+
+abbrev pub timeDelta1 : ℕ
+timeDelta1 = 64
+
+-- the values of its section list, and its last byte
+abbrev pub changesValue : ℕ
+changesValue = 69
+
+abbrev pub syncValue : ℕ
+syncValue = 74
+
+abbrev pub namesValue : ℕ
+namesValue = 79
+
+abbrev pub geometryValue : ℕ
+geometryValue = 84
+
+abbrev pub timesValue : ℕ
+timesValue = 89
+
+abbrev pub lastByte : ℕ
+lastByte = 94
+
+-- ---- n facilities of 1 bit without changes: their names, with the memory M, stand last before END
+
+abbrev pub facilitiesNamed : ℕ → ℕ → List ℕ → List ℕ
+facilitiesNamed n M names =
+    spelled 4 0x01380004
+    -- times, sync and geometry
+    ++ replicate 12 0
+    ++ replicate (4 * n) 0
+    ++ replicate (16 * n) 0
+    ++ spelled 4 n
+    ++ spelled 4 M
+    ++ names
+    -- END
+    ++ spelled 1 0x00
+    ++ spelled 5 0x0000000401
+    ++ spelled 5 0x0000001002
+    ++ spelled 4 (16 + 20 * n)
+    ++ spelled 1 0x03
+    ++ spelled 4 (16 + 4 * n)
+    ++ spelled 1 0x04
+    ++ spelled 5 0x0000000406
+    ++ spelled 1 0xB4
+
+-- ---- a trace with more
 
 -- A trace with every kind, an alias of an alias, a reordered real, C above 4, sections in another order, tags that are skipped and a tag that is met
 -- twice. T = 242. Each line of a section begins at the offset that its comment names.
@@ -102,3 +218,60 @@ mixed =
     ++ spelled 5 0x0000000401
     -- last byte
     ++ spelled 1 0xB4
+
+-- its places: of the changes at 5 and 8 the command byte and the delta,
+abbrev pub command5 : ℕ
+command5 = 5
+
+abbrev pub delta5 : ℕ
+delta5 = 6
+
+abbrev pub command8 : ℕ
+command8 = 8
+
+abbrev pub delta8 : ℕ
+delta8 = 9
+
+-- the command bytes of the changes at 14, 24 and 37,
+abbrev pub command14 : ℕ
+command14 = 14
+
+abbrev pub command24 : ℕ
+command24 = 24
+
+abbrev pub command37 : ℕ
+command37 = 37
+
+-- the last data byte of the changes at 5 and 29,
+abbrev pub data5 : ℕ
+data5 = 7
+
+abbrev pub data29 : ℕ
+data29 = 33
+
+-- the count of time entries,
+abbrev pub entriesOfMixed : ℕ
+entriesOfMixed = 39
+
+-- of facility f the sync entry, the rows and the flags,
+abbrev pub syncOfMixed : ℕ → ℕ
+syncOfMixed f = 67 + 4 * f
+
+abbrev pub rowsOfMixed : ℕ → ℕ
+rowsOfMixed f = 91 + 16 * f
+
+abbrev pub flagsOfMixed : ℕ → ℕ
+flagsOfMixed f = 91 + 16 * f + 12
+
+-- the bodies of one byte, the real test, and where its section list has the value of the test
+abbrev pub timescaleByte : ℕ
+timescaleByte = 232
+
+abbrev pub initialByte : ℕ
+initialByte = 233
+
+abbrev pub realTest : ℕ
+realTest = 234
+
+abbrev pub testValue : ℕ
+testValue = 278

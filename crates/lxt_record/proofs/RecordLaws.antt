@@ -11,6 +11,7 @@ use lib.ListN.{length, getD, take, drop, take-append-drop, length-map, drop-of-l
 use lib.Seq.{length-take-le, take-all, take-at, take-take, getD-take, drop-append-le}
 use lib.Dec.{leb, eqb, lit<}
 use borrow.Author.Tests.{leb-true, le-leb, lt-leb, eqb-true}
+use Rattle.lxt_format.specs.Limits.{mostFacilities}
 use Rattle.lxt_format.specs.Basics.{range, all, _unless_}
 use Rattle.lxt_format.specs.BasicsLaws.{on-test, on-zero, and-both, stops, neither, kept, all-range}
 use Rattle.lxt_format.specs.Sections.{facilityCount}
@@ -74,16 +75,16 @@ allowed-room s ts room h = all-same _ _ 0 (facilityCount s) (λ f a b. ap (pairA
 
 -- ---- the room of a record
 
--- r ≡ min k 4096
-pub room-fits : (r k : ℕ) → r ≡ min k 4096 → (r ≤ k) × (r ≤ 4096)
+-- no more than the pairs, and no more than the most facilities
+pub room-fits : (r k : ℕ) → r ≡ min k mostFacilities → (r ≤ k) × (r ≤ mostFacilities)
 room-fits r k e = (omega (arith, e), omega (arith, e))
 
-count-room : (n k r : ℕ) → n ≤ 4096 → r ≡ min k 4096 → leb n r ≡ leb n k
+count-room : (n k r : ℕ) → n ≤ mostFacilities → r ≡ min k mostFacilities → leb n r ≡ leb n k
 count-room n k r h e = elim (decLe n k) [ yes a ↦ le-leb n r (omega (arith, e)) ∙ sym (le-leb n k a) | no a ↦ lt-leb n r (omega (arith, e)) ∙ sym (lt-leb n k (omega (arith, a))) ]
 
 -- ---- starting and carrying on over the first `room` pairs
 
-module _ (s : List ℕ) (ts : List Pair) (room : ℕ) (e : room ≡ min (length ts) 4096) where
+module _ (s : List ℕ) (ts : List Pair) (room : ℕ) (e : room ≡ min (length ts) mostFacilities) where
   fits : room ≤ length ts
   fits = room-fits room (length ts) e .0
 
