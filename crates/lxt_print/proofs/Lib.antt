@@ -3,3 +3,4 @@ pub mod LineLaws
 pub mod ValueLaws
 pub mod StepLaws
 pub mod NamingLaws
+pub mod BeginLaws

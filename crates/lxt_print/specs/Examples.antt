@@ -4,7 +4,7 @@ use mathlib.Core.List.{List, [], _∷_, _++_}
 use Prim.Native.Nat.{ℕ}
 use Rattle.lxt_format.specs.Everything.{everything}
 use Rattle.lxt_format.specs.Traces.{spelled, trace}
-use Rattle.lxt_print.specs.Lines.{decimalWithin, decimal, hexDigit, hexByte, hexBytes, facilityWord, changeWord, doneWord, refusedWord, aliasWord, kindWord, facilityLine, valueText, changeLine, doneLine, refusedLine, acceptedText, printed}
+use Rattle.lxt_print.specs.Lines.{decimalWithin, decimal, hexDigit, hexByte, hexBytes, facilityWord, changeWord, doneWord, refusedWord, aliasWord, kindWord, facilityLine, valueText, changeLine, doneLine, refusedLine, acceptedText, printRefusal, printed}
 
 -- "facility 0 a bits 1", "change 0 6 5 0", "change 0 4 0 1", "done 2"
 abbrev four-lines : List ℕ
@@ -15,5 +15,5 @@ four-lines =
     ++ spelled 7 0x646F6E6520320A
 
 pub prints-four-lines : printed trace ≡ four-lines
-unfolding everything trace spelled decimalWithin decimal hexDigit hexByte hexBytes facilityWord changeWord doneWord refusedWord aliasWord kindWord facilityLine valueText changeLine doneLine refusedLine acceptedText printed
+unfolding everything trace spelled decimalWithin decimal hexDigit hexByte hexBytes facilityWord changeWord doneWord refusedWord aliasWord kindWord facilityLine valueText changeLine doneLine refusedLine acceptedText printRefusal printed
 prints-four-lines = refl

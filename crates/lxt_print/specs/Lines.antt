@@ -4,7 +4,8 @@ use mathlib.Core.Bool.{Bool, true, false}
 use mathlib.Core.List.{List, [], _∷_, _++_}
 use lib.ListN.{length, take, drop}
 use lib.Dec.{leb, ltb, eqb}
-use Rattle.lxt_format.specs.Basics.{if_then_else_, range, joined, Answer, given, refused}
+use Rattle.lxt_format.specs.Limits.{longestPrinted}
+use Rattle.lxt_format.specs.Basics.{if_then_else_, _unless_, _orElse_, range, joined}
 use Rattle.lxt_format.specs.Sections.{facilityCount}
 use Rattle.lxt_format.specs.Names.{nameOf}
 use Rattle.lxt_format.specs.Geometry.{isAlias, rootOf, ownFacts}
@@ -107,15 +108,16 @@ refusedLine k = refusedWord ++ space ++ decimal k ++ newline
 
 -- ---- the whole
 
--- "prints facilities, then changes in walk order with all asked for"
+-- "prints facilities, then changes in walk order with all asked for"; "done" counts them
 unfoldable pub acceptedText : List ℕ → List ℕ
 acceptedText s =
     joined (facilityLine s) (range 0 (facilityCount s))
     ++ joined (changeLine s) (sort (allChanges s))
-    ++ doneLine (length (allChanges s))
+    ++ doneLine (length (sort (allChanges s)))
 
 -- "a trace of at most 65,536 bytes"; "longer input is 1"
+unfoldable pub printRefusal : List ℕ → ℕ
+printRefusal s = 1 unless leb (length s) longestPrinted orElse fileRefusal s
+
 unfoldable pub printed : List ℕ → List ℕ
-printed s =
-    if leb (length s) 65536 then (if eqb (fileRefusal s) 0 then acceptedText s else refusedLine (fileRefusal s))
-    else refusedLine 1
+printed s = if eqb (printRefusal s) 0 then acceptedText s else refusedLine (printRefusal s)
