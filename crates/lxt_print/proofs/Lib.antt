@@ -4,3 +4,5 @@ pub mod ValueLaws
 pub mod StepLaws
 pub mod NamingLaws
 pub mod BeginLaws
+pub mod NextLaws
+pub mod FillLaws

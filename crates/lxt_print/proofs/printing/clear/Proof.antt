@@ -9,7 +9,7 @@ abbrev Inv-loop : tie.InvT-loop
 Inv-loop nodes₀ i₀ nodes i = Clearing nodes₀ i nodes
 
 abbrev μ-loop : tie.MeasureT-loop
-μ-loop nodes₀ i₀ nodes i = length nodes - i
+μ-loop nodes₀ i₀ nodes i = length nodes₀ - i
 
 loop-holds : tie.Need-loop-holds Inv-loop μ-loop
 loop-holds c = search clear-begun
