@@ -51,6 +51,10 @@ put-line s r nodes r′ name′ nodes′ line line′ l size es el some e g =
       less = omega arith;
     }
 
+-- the nodes of the tree are a part of those lent
+pub tree-fits : (s : List ℕ) (r : Rest) (name nodes : List ℕ) → Going s r name nodes → 2 * r .leaves ≤ length nodes
+tree-fits s r name nodes g = let l = g .waiting .tree .room .long in let m = length-take (2 * r .leaves) nodes in omega arith
+
 module _ (s : List ℕ) (r : Rest) (name nodes line : List ℕ) (g : Going s r name nodes) (room : Roomy s line) where
   count-is : r .tables .facilities ≡ facilityCount s
   count-is = opened-known s (r .tables) (g .opened) .facilities
@@ -76,13 +80,6 @@ module _ (s : List ℕ) (r : Rest) (name nodes line : List ℕ) (g : Going s r n
       (λ o. (record { more = g .more; opened = g .opened; names = n; waiting = g .waiting; timed = g .timed; few = g .few }, room))
 
   -- ---- a change
-
-  -- the nodes of the tree are a part of those lent
-  pub tree-long : length (treeOf r nodes) ≡ 2 * r .leaves
-  tree-long = g .waiting .tree .room .long
-
-  pub tree-fits : 2 * r .leaves ≤ length nodes
-  tree-fits = let l = tree-long in let m = length-take (2 * r .leaves) nodes in omega arith
 
   module _ (h : r .tables .facilities ≤ r .facility) (tree′ rest : List ℕ) (size : ℕ) (es : size ≡ length (nextLine s (drop (r .leaves) (treeOf r nodes)))) where
     no-facility : range (r .facility) (facilityCount s - r .facility) ≡ []

@@ -2,8 +2,7 @@
 ghost use mathlib.Core.Path.{_≡_};
 ghost use mathlib.Core.Bool.{true};
 ghost use Prim.Native.Nat.{_+_, _-_, _≤_, _<_, min};
-ghost use lib.ListN.{length, replicate};
-ghost use lib.Seq.{slice};
+ghost use lib.ListN.{length, take, drop, replicate};
 ghost use Rattle.lxt_format.specs.Judge.{fileRefusal};
 ghost use Rattle.lxt_chains.specs.Tree.{Room};
 ghost use Rattle.lxt_print.specs.Lines.{printRefusal};
@@ -225,7 +224,7 @@ fn least(a: usize, b: usize) -> usize
 // Puts of the line what the buffer has room for: the place after it.
 fn put_part(line: &[u8], at: usize, size: usize, out: &mut [u8], from: usize) -> usize
     requires { ⌜ (at ≤ size) × ((size ≤ length (now line)) × (from ≤ length (now out))) ⌝ }
-    ensures { λ r. ⌜ Put (now (out .entry)) from (slice at (at + min (size - at) (length (now (out .entry)) - from)) (now (line .entry))) r (now (out .exit)) ⌝ }
+    ensures { λ r. ⌜ Put (now (out .entry)) from (take (min (size - at) (length (now (out .entry)) - from)) (drop at (now (line .entry)))) r (now (out .exit)) ⌝ }
 {
     let k = least(size - at, out.len() - from);
     put_bytes(out, from, &line[at..at + k])

@@ -1,63 +1,54 @@
+use borrow.Author.Needs.{needs}
+use native.Mathlib.Omega.{arith}
+use mathlib.Core.Path.{_≡_, refl, _∙_}
+use lib.ListN.{length}
+use Rattle.lxt_print.specs.Left.{linesLeft, leftText}
+use Rattle.lxt_print.proofs.FillLaws.{Filling, fill-begun, part-asks, part-bounds, same-out, fill-ended, line-asks, fill-again}
 use Rattle.lxt_print.proofs.printing.fill.Statement.{statement}
 use Rattle.lxt_print.proofs.printing.fill.Tie as tie
-use Rattle.lxt_print.proofs.printing.fill.Reads as reads
-use Rattle.lxt_print.proofs.printing.fill.Lts as lts
-use Rattle.lxt_print.proofs.printing.next_line.Reads as next-line-reads
-use Rattle.lxt_print.proofs.printing.put_part.Reads as put-part-reads
 
 abbrev Inv-loop : tie.InvT-loop
-Inv-loop file name₀ nodes₀ line₀ out₀ left₀ put₀ name nodes line out left put = ?
+Inv-loop file name₀ nodes₀ line₀ out₀ left₀ put₀ name nodes line out left put =
+    Filling file (leftText file left₀ nodes₀ line₀) out₀ left name nodes line out put × ((length name ≡ length name₀) × ((length nodes ≡ length nodes₀) × (length line ≡ length line₀)))
 
 abbrev μ-loop : tie.MeasureT-loop
-μ-loop file name₀ nodes₀ line₀ out₀ left₀ put₀ name nodes line out left put = ?
+μ-loop file name₀ nodes₀ line₀ out₀ left₀ put₀ name nodes line out left put = length (linesLeft file (left .rest) nodes)
 
--- src/printing.rt:248:5
 loop-holds : tie.Need-loop-holds Inv-loop μ-loop
-loop-holds c = ?
+loop-holds c = (fill-begun _ _ _ _ _ _ (c .before .before .before .before .before .pre), search needs)
 
--- src/printing.rt:249:13
 put-part-requires : tie.Need-put-part-requires Inv-loop μ-loop
-put-part-requires c κs = ?
+put-part-requires c κs = part-asks _ _ _ _ _ _ _ _ _ (c .before .before .loop .inv .0)
 
--- src/printing.rt:250:20
 sub-left : tie.Need-sub-left Inv-loop μ-loop
-sub-left c = ?
+sub-left c = let b = part-bounds _ _ _ _ _ _ _ _ _ (c .before .before .before .before .before .loop .inv .0) _ _ (c .before .before .put-part .ensures) in search needs
 
--- src/printing.rt:250:9
 add-left : tie.Need-add-left Inv-loop μ-loop
-add-left c = ?
+add-left c = let b = part-bounds _ _ _ _ _ _ _ _ _ (c .before .before .before .before .before .before .loop .inv .0) _ _ (c .before .before .before .put-part .ensures) in search needs
 
--- src/printing.rt:253:13
 same-length : tie.Need-same-length Inv-loop μ-loop
-same-length c = ?
+same-length c = c .before .before .before .before .before .before .before .before .before .before .loop .inv .1 .0
 
--- src/printing.rt:253:13
 same-length-2 : tie.Need-same-length-2 Inv-loop μ-loop
-same-length-2 c = ?
+same-length-2 c = c .before .before .before .before .before .before .before .before .before .before .loop .inv .1 .1 .0
 
--- src/printing.rt:253:13
 same-length-3 : tie.Need-same-length-3 Inv-loop μ-loop
-same-length-3 c = ?
+same-length-3 c = c .before .before .before .before .before .before .before .before .before .before .loop .inv .1 .1 .1
 
--- src/printing.rt:253:13
 same-length-4 : tie.Need-same-length-4 Inv-loop μ-loop
-same-length-4 c = ?
+same-length-4 c = same-out (c .before .before .before .before .before .before .before .before .before .before .loop .inv .0) (c .before .before .before .before .before .before .before .put-part .ensures)
 
--- src/printing.rt:253:13
 returns : tie.Need-returns Inv-loop μ-loop
-returns c = ?
+returns c = fill-ended (c .before .before .before .before .before .before .before .before .before .before .loop .inv .0) (c .before .before .before .before .before .before .before .put-part .ensures) _ _ _ refl (c .before .before .if1 .taken)
 
--- src/printing.rt:259:13
 next-line-requires : tie.Need-next-line-requires Inv-loop μ-loop
-next-line-requires c κs = ?
+next-line-requires c κs = line-asks (c .before .before .before .before .before .before .before .before .before .before .before .loop .inv .0) (c .before .before .before .before .before .before .before .before .put-part .ensures) (c .before .before .before .if1 .left)
 
--- src/printing.rt:248:5
 loop-less : tie.Need-loop-less Inv-loop μ-loop
-loop-less c = ?
+loop-less c = c .before .before .before .before .before .before .next-line .ensures .less
 
--- src/printing.rt:248:5
 loop-again : tie.Need-loop-again Inv-loop μ-loop
-loop-again c = ?
+loop-again c = (fill-again (c .before .before .before .before .before .before .before .before .before .before .before .before .before .before .before .before .before .before .loop .inv .0) (c .before .before .before .before .before .before .before .before .before .before .before .before .before .before .before .put-part .ensures) (c .before .before .before .before .before .before .before .before .before .before .if1 .left) (c .before .before .before .before .before .before .next-line .ensures), (c .before .before .before .before .before .name .given ∙ c .before .before .before .before .before .before .before .before .before .before .before .before .before .before .before .before .before .before .loop .inv .1 .0, (c .before .before .before .nodes .given ∙ c .before .before .before .before .before .before .before .before .before .before .before .before .before .before .before .before .before .before .loop .inv .1 .1 .0, c .before .line .given ∙ c .before .before .before .before .before .before .before .before .before .before .before .before .before .before .before .before .before .before .loop .inv .1 .1 .1)))
 
 pub fill-spec : {M : Type 1} → statement M
 fill-spec =

@@ -1,11 +1,11 @@
 use borrow.Author.Needs.{needs}
-use Rattle.lxt_print.proofs.NextLaws.{tree-fits, tree-long, last-next, count-small, change-next}
+use Rattle.lxt_print.proofs.NextLaws.{tree-fits, last-next, count-small, change-next}
 use native.Mathlib.Omega.{arith}
 use Rattle.lxt_print.proofs.printing.next_change.Statement.{statement}
 use Rattle.lxt_print.proofs.printing.next_change.Tie as tie
 
 mul-next : tie.Need-mul-next
-mul-next c = let h = tree-fits _ _ _ _ _ (c .before .before .before .before .pre .0) (c .before .before .before .before .pre .1 .0) in search needs
+mul-next c = let h = tree-fits _ _ _ _ (c .before .before .before .before .pre .0) in search needs
 
 slice-relend-prefix-next : tie.Need-slice-relend-prefix-next
 slice-relend-prefix-next c = search tree-fits

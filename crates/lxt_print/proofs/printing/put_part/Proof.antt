@@ -1,5 +1,4 @@
 use borrow.Author.Needs.{needs}
-use mathlib.Core.Path.{ap}
 use Rattle.lxt_print.proofs.FillLaws.{part-is}
 use Rattle.lxt_print.proofs.printing.put_part.Statement.{statement}
 use Rattle.lxt_print.proofs.printing.put_part.Tie as tie
@@ -32,7 +31,7 @@ same-length : tie.Need-same-length
 same-length c = search needs
 
 returns : tie.Need-returns
-returns c = part-is _ _ _ _ _ _ _ _ (c .before .before .before .before .before .least .ensures) (c .before .before .put-bytes .ensures)
+returns c = part-is _ _ (c .before .before .before .before .before .least .ensures) (c .before .before .put-bytes .ensures)
 
 pub put-part-spec : {M : Type 1} → statement M
 put-part-spec =
