@@ -4,3 +4,4 @@ pub mod Placing
 pub mod Stepping
 pub mod Left
 pub mod Calls
+pub mod Printed
