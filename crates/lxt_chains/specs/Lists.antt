@@ -105,14 +105,6 @@ unfolding range
 each-range i zero h = Each.none
 each-range i (suc k) h = Each.both (h i (omega arith) (omega arith)) (each-range (suc i) k (λ j a b. h j (omega arith) (omega arith)))
 
--- a test that holds of some number of a range
-pub any-range : {P : Type 0} (p : ℕ → Bool) (i k : ℕ) → any p (range i k) ≡ true → ((j : ℕ) → i ≤ j → j < i + k → p j ≡ true → P) → P
-unfolding any range
-any-range p i zero h found = absurd (false≢true h)
-any-range {P} p i (suc k) h found =
-    let rest : any p (range (suc i) k) ≡ true → P = λ e. any-range p (suc i) k e (λ j a b q. found j (omega arith) (omega arith) q) in
-    or-either (p i) (any p (range (suc i) k)) h (λ e. found i (omega arith) (omega arith) e) rest
-
 -- two tests of equality that follow from each other
 pub eqb-same : (a b c d : ℕ) → (a ≡ b → c ≡ d) → (c ≡ d → a ≡ b) → eqb a b ≡ eqb c d
 eqb-same a b c d f g =

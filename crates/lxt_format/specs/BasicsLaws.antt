@@ -7,7 +7,7 @@ use lib.ListN.{length, getD}
 use native.Mathlib.Omega.{arith}
 use native.Mathlib.Decide.{ℕ-discrete}
 use borrow.Author.Tests.{eq-eqb, ne-eqb}
-use Rattle.lxt_format.specs.Basics.{_unless_, _orElse_, given, refused, answer, range, all, firstFault}
+use Rattle.lxt_format.specs.Basics.{_unless_, _orElse_, given, refused, answer, range, all, any, firstFault}
 
 -- ---- cases
 
@@ -31,6 +31,10 @@ both-and a b p q = rw (p, q)
 pub or-either {ℓ} : {P : Type ℓ} (a b : Bool) → (a || b) ≡ true → (a ≡ true → P) → (b ≡ true → P) → P
 or-either true b h f g = f refl
 or-either false b h f g = g h
+
+pub or-true : (a : Bool) {b : Bool} → b ≡ true → (a || b) ≡ true
+or-true true h = refl
+or-true false h = h
 
 pub or-none : (a b : Bool) → (a || b) ≡ false → (a ≡ false) × (b ≡ false)
 or-none true b h = absurd (false≢true (sym h))
@@ -125,6 +129,21 @@ module _ (p : ℕ → Bool) where
   pub all-end : (i n : ℕ) → n ≤ i → all p (range i (n - i)) ≡ true
   unfolding all
   all-end i n h = rw (range-done i n h)
+
+-- a test that holds of some number of a range
+pub any-range : {P : Type 0} (p : ℕ → Bool) (i k : ℕ) → any p (range i k) ≡ true → ((j : ℕ) → i ≤ j → j < i + k → p j ≡ true → P) → P
+unfolding any range
+any-range p i zero h found = absurd (false≢true h)
+any-range {P} p i (suc k) h found =
+    let rest : any p (range (suc i) k) ≡ true → P = λ e. any-range p (suc i) k e (λ j a b q. found j (omega arith) (omega arith) q) in
+    or-either (p i) (any p (range (suc i) k)) h (λ e. found i (omega arith) (omega arith) e) rest
+
+pub range-any : (p : ℕ → Bool) (i k j : ℕ) → i ≤ j → j < i + k → p j ≡ true → any p (range i k) ≡ true
+unfolding any range
+range-any p i zero j a b h = absurd (omega arith)
+range-any p i (suc k) j a b h =
+    let rest : suc i ≤ j → any p (range (suc i) k) ≡ true = λ c. range-any p (suc i) k j c (omega arith) h in
+    elim (ℕ-discrete j i) [ yes e ↦ rw (← e, h) | no n ↦ or-true (p i) (rest (omega arith)) ]
 
 -- ---- the first fault
 

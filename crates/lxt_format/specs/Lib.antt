@@ -18,6 +18,7 @@ pub mod Values
 pub mod Judge
 pub mod JudgeLaws
 pub mod Walk
+pub mod WalkLaws
 pub mod Answers
 pub mod Columns
 pub mod Questions

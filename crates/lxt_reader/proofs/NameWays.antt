@@ -1,21 +1,22 @@
 -- A law for each way out of the questions on a name.
-use Prim.Native.Nat.{ℕ, _+_, _≤_, _<_}
+use Prim.Native.Nat.{ℕ, _+_, _-_, _≤_, _<_}
 use mathlib.Core.Path.{_≡_, refl, sym, _∙_}
-use mathlib.Core.List.{List, []}
-use lib.ListN.{length}
-use lib.Seq.{slice}
-use lib.Dec.{leb, lit<}
+use mathlib.Core.List.{List, [], _++_}
+use lib.ListN.{length, take, drop, replicate}
+use lib.Seq.{slice, take-append-seam}
+use lib.Dec.{leb, eqb, lit<}
 use native.Mathlib.Omega.{arith}
 use borrow.Author.Tests.{le-leb, lt-leb, leb-true, eqb-false}
-use Rattle.lxt_format.specs.Basics.{_unless_, given, refused, lentAfter}
-use Rattle.lxt_format.specs.BasicsLaws.{stops, neither, kept, answer-given, answer-refused}
+use Rattle.lxt_format.specs.Basics.{_unless_, Answer, given, refused, lentAfter}
+use Rattle.lxt_format.specs.BasicsLaws.{on-test, stops, neither, kept, answer-given, answer-refused}
+use Rattle.lxt_format.specs.Limits.{longestName}
 use Rattle.lxt_format.specs.Bytes.{u32At}
 use Rattle.lxt_format.specs.Names.{nameTable, namesAllowed, nameOf}
 use Rattle.lxt_format.specs.NamesLaws.{names-short}
 use Rattle.lxt_format.specs.Questions.{facilityRefusal, nameRefusal, nameAsked, nameBuffer, namePart, holdingName}
 use Rattle.lxt_values.specs.Names as N
 use Rattle.lxt_values.specs.Names.{nameAt, name-is}
-use Rattle.lxt_reader.specs.Asking.{Answers, Named}
+use Rattle.lxt_reader.specs.Asking.{Answers, Named, lengthIn}
 use Rattle.lxt_reader.specs.declared.facilities.Asked.{Asked}
 use Rattle.lxt_reader.specs.declared.names.NamePlace.{NamePlace}
 use Rattle.lxt_reader.proofs.AskWays.{all-known, facility-below}
@@ -83,10 +84,6 @@ module _ (s : List ℕ) (f : ℕ) (buffer : List ℕ) (p : NamePlace) (w : Named
       kept-as-was : (nameRefusal s f (length buffer) ≡ 0 → ⊥) → lentAfter (nameRefusal s f (length buffer)) (holdingName (nameOf s f) buffer) buffer ≡ buffer
       kept-as-was m = simp (borrow.Author.Tests.ne-eqb _ _ m)
 
-  pub part-refused : (p .refusal ≡ 0 → ⊥) → _≡_ {A = List ℕ} [] (namePart s f (length buffer))
-  unfolding namePart
-  part-refused n = let m : nameRefusal s f (length buffer) ≡ 0 → ⊥ = λ z. n (w .refusal ∙ z) in sym (simp (borrow.Author.Tests.ne-eqb _ _ m))
-
   module _ (h : p .refusal ≡ 0) where
     fine : nameRefusal s f (length buffer) ≡ 0
     fine = sym (w .refusal) ∙ h
@@ -108,6 +105,23 @@ module _ (s : List ℕ) (f : ℕ) (buffer : List ℕ) (p : NamePlace) (w : Named
     length-given n after en ea =
         (sym (answer-given (nameRefusal s f (length buffer)) _ fine ∙ rw (en, w .name h)), ea ∙ rw (w .name h, fine))
 
-    pub part-given : (r : List ℕ) → r ≡ nameAt s (p .at) (p .end) (p .facilities) f → r ≡ namePart s f (length buffer)
-    unfolding namePart
-    part-given r e = e ∙ rw (w .name h, fine)
+-- ---- the part
+
+-- a buffer that holds a name begins with it
+front : (name d : List ℕ) → take (length name) (holdingName name d) ≡ name
+unfolding holdingName
+front name d = take-append-seam name (replicate (longestName - length name) 0 ++ drop longestName d)
+
+module _ (s : List ℕ) (f : ℕ) (buffer : List ℕ) (a : Answer ℕ) (is : a ≡ nameAsked s f (length buffer)) where
+  -- the first bytes of the buffer that asking for the length leaves, as many as it answered, are the name; none where it refused
+  pub part-is : (after : List ℕ) (k : ℕ) → k ≡ lengthIn a → after ≡ nameBuffer s f buffer → take k after ≡ namePart s f (length buffer)
+  unfolding nameAsked nameBuffer namePart
+  part-is after k ek ea =
+      on-test (eqb (nameRefusal s f (length buffer)) 0) (λ e. rw (ek, ea, is, e) (front (nameOf s f) buffer)) (λ e. rw (ek, ea, is, e))
+
+  -- it has the length that was answered
+  pub part-length : (after : List ℕ) (k : ℕ) → k ≡ lengthIn a → after ≡ nameBuffer s f buffer → k ≡ length (take k after)
+  unfolding nameAsked namePart
+  part-length after k ek ea =
+      let same = part-is after k ek ea in
+      on-test (eqb (nameRefusal s f (length buffer)) 0) (λ e. ek ∙ rw (same, is, e)) (λ e. ek ∙ rw (same, is, e))

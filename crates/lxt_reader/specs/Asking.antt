@@ -2,6 +2,7 @@
 use Prim.Native.Nat.{ℕ}
 use mathlib.Core.Path.{_≡_}
 use mathlib.Core.List.{List}
+use Rattle.lxt_format.specs.Basics.{Answer, given, refused}
 use Rattle.lxt_format.specs.Geometry.{rootOf}
 use Rattle.lxt_format.specs.Names.{nameOf}
 use Rattle.lxt_format.specs.Questions.{facilityRefusal, nameRefusal}
@@ -16,6 +17,11 @@ pub record Answers (s : List ℕ) (f : ℕ) (a : Asked) : Type 0 where
   pub refusal : a .refusal ≡ facilityRefusal s f
   pub root : a .refusal ≡ 0 → a .root ≡ rootOf s f
   pub tables : a .tables ≡ tablesOf s
+
+-- the length of a name that is answered, 0 where the question is refused
+abbrev pub lengthIn : Answer ℕ → ℕ
+lengthIn (given k) = k
+lengthIn (refused k) = 0
 
 -- the refusal of a question on the name of the facility f with that room, or where its name stands
 pub record Named (s : List ℕ) (f room : ℕ) (p : NamePlace) : Type 0 where

@@ -3,7 +3,7 @@ ghost use mathlib.Core.Path.{_≡_};
 ghost use lib.ListN.{length};
 ghost use Rattle.lxt_format.specs.Answers.{numberSays};
 ghost use Rattle.lxt_format.specs.Questions.{nameAsked, nameBuffer, namePart};
-ghost use Rattle.lxt_reader.specs.Asking.{Named};
+ghost use Rattle.lxt_reader.specs.Asking.{Named, lengthIn};
 use crate::facilities::ask;
 use lxt_format::NameCursor;
 use lxt_format::NumberAnswer;
@@ -66,14 +66,21 @@ pub fn length_of(file: &[u8], facility: u32, names: &mut [u8]) -> NumberAnswer
     NumberAnswer::Number(length as u32)
 }
 
-// The name itself: the first bytes of the lent buffer, which is written alike. It is empty exactly
-// where the name is empty or the question is refused.
+// The length that is answered, 0 where the question is refused.
+fn length_in(answer: NumberAnswer) -> usize
+    ensures { λ r. ⌜ r ≡ lengthIn (numberSays answer) ⌝ }
+{
+    match answer {
+        NumberAnswer::Number(length) => length as usize,
+        NumberAnswer::Refused(_) => 0,
+    }
+}
+
+// The name itself: the first bytes of the lent buffer. It is empty exactly where the name is empty or the
+// question is refused. `length_of` writes, and nothing else does: so both write alike.
 pub fn name_of<'f, 'a>(file: &'f [u8], facility: u32, names: &'a mut [u8]) -> &'a mut [u8]
     ensures { λ r. ⌜ now r ≡ namePart (now (file .entry)) facility (length (now (names .entry))) ⌝ }
 {
-    let p = find(file, facility, names.len());
-    if p.refusal != 0 {
-        return &mut names[..0];
-    }
-    names::part(file, p.at, p.end, p.facilities, p.memory, facility, names)
+    let length = length_in(length_of(file, facility, names));
+    &mut names[..length]
 }

@@ -25,9 +25,9 @@ use Rattle.lxt_format.specs.declared.CarryAnswer.{CarryAnswer}
 use Rattle.lxt_format.specs.Answers.{startSays, carrySays}
 use Rattle.lxt_chains.specs.Bridge.{length-start}
 use Rattle.lxt_walk.specs.Calls.{Starts, Carries}
-use Rattle.lxt_walk.specs.Handed.{length-after}
-use Rattle.lxt_walk.specs.Record.{length-with}
-use Rattle.lxt_walk.specs.ColumnsLaws.{length-paired, getD-paired, take-paired, length-numbers, length-offsets, paired-columns, numbers-paired, numbers-with}
+use Rattle.lxt_walk.proofs.Handed.{length-after}
+use Rattle.lxt_walk.proofs.Record.{length-with}
+use Rattle.lxt_walk.proofs.ColumnsLaws.{length-paired, getD-paired, take-paired, length-numbers, length-offsets, paired-columns, numbers-paired, numbers-with}
 use Rattle.lxt_record.specs.Rooms.{none, over}
 
 -- ---- pairs and their numbers and offsets

@@ -110,28 +110,28 @@ fn unlisted() -> Listing
 fn list(file: &[u8]) -> Listing
     ensures { λ r. ⌜ r ≡ listedOf (now (file .entry)) ⌝ }
 {
-    let mut table = [0u32; 19];
+    let mut met = [0u32; 19];
     let start = SectionCursor::fresh(file.len());
     let mut p = start.at;
-    let end = 'items: loop {
+    let table = 'items: loop {
         if p < SectionCursor::FIRST {
             return unlisted();
         }
         let tag = file[p] as usize;
         if tag == 0 {
-            break 'items p;
+            break 'items met;
         }
         if p < SectionCursor::FIRST + 4 {
             return unlisted();
         }
-        let next = put(table, tag, be32(file, p - 4));
-        table = next;
+        let next = put(met, tag, be32(file, p - 4));
+        met = next;
         p = p - SectionCursor::ITEM;
     };
     Listing {
         listed: true,
         table: table,
-        end: end,
+        end: p,
     }
 }
 

@@ -5,7 +5,7 @@ use mathlib.Core.Bool.{Bool, true, false, _&&_, false≢true}
 use mathlib.Core.List.{List, [], _++_, append-assoc}
 use mathlib.Core.Option.{Option, none, some}
 use lib.ListN.{length, take, drop, replicate, length-append, length-take, length-drop, length-replicate, take-append-drop}
-use lib.Seq.{slice, length-slice, length-take-le, drop-drop, getD-drop, getD-take, take-take, take-paste, paste, drop-paste, length-paste, drop-append-le, take-append-le, take-append-seam, take-all}
+use lib.Seq.{slice, length-slice, length-take-le, drop-drop, getD-drop, getD-take, take-take, take-paste, paste, drop-paste, length-paste, drop-append-le, take-append-le, take-all}
 use lib.Dec.{ltb, leb}
 use native.Mathlib.Omega.{arith}
 use native.Mathlib.Nat.{add-zero}
@@ -251,12 +251,3 @@ module _ (s : List ℕ) (at T n f : ℕ) (d₀ d : List ℕ) (left p before want
         e ∙ append-assoc (take before d) (take k (replicate k 0)) (drop (before + k) d) ∙ rw (← named-held, length-take-le before d l, all, ek, h .tail)
 
 -- ---- the part of the buffer that is the name
-
--- it is the first bytes of the buffer
-pub front : (name d₀ d : List ℕ) (r : ℕ) → r ≡ length name → d ≡ holdingName name d₀ → take r d ≡ name
-unfolding holdingName
-front name d₀ d r e q = rw (e, q) (take-append-seam name (replicate (longestName - length name) 0 ++ drop longestName d₀))
-
--- and has its length
-pub front-length : (name d₀ d : List ℕ) (r : ℕ) → r ≡ length name → d ≡ holdingName name d₀ → r ≡ length (take r d)
-front-length name d₀ d r e q = e ∙ sym (ap length (front name d₀ d r e q))

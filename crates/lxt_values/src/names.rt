@@ -85,20 +85,3 @@ pub fn expand(
     clear(names, c.before, NameCursor::LONGEST);
     c.before
 }
-
-// The name itself: the first bytes of the lent buffer, which is written alike.
-pub fn part<'f, 'a>(
-    file: &'f [u8],
-    at: usize,
-    end: usize,
-    n: u32,
-    memory: u32,
-    f: u32,
-    names: &'a mut [u8],
-) -> &'a mut [u8]
-    requires { ⌜ Named (now file) at end n memory f × (1023 ≤ length (now names)) ⌝ }
-    ensures { λ r. ⌜ now r ≡ nameAt (now (file .entry)) at end n f ⌝ }
-{
-    let len = expand(file, at, end, n, memory, f, names);
-    &mut names[..len]
-}

@@ -1,3 +1,11 @@
+pub mod Wider
+pub mod Handed
+pub mod Record
+pub mod ColumnsLaws
+pub mod Full
+pub mod Telling
+pub mod Demand
+pub mod Examples
 pub mod HandLaws
 pub mod CarryWays
 pub mod StartLaws

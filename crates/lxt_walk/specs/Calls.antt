@@ -1,4 +1,4 @@
--- Paper 01, "The whole walk (demand 3)": a list of calls, and what it is to tell. These are the words of `demand-3` (Demand).
+-- Paper 01, "The whole walk (demand 3)": a list of calls, and what it is to tell. `Demand3`, at the end, is the claim; proofs/Demand proves it.
 use Prim.Native.Nat.{ℕ, _+_, _*_, _-_, _≤_, _<_, min}
 use mathlib.Core.Path.{_≡_}
 use mathlib.Core.Logic.{_↔_}
@@ -90,6 +90,15 @@ unfoldable pub outputOf : List Made → List ℕ
 outputOf [] = []
 outputOf (m ∷ calls) = handedBy (carrySays (m .answer)) (m .output) ++ outputOf calls
 
+-- "the sum of the sizes of the calls not refused"
+unfoldable pub sizeBy : Answer (ℕ × Bool) → ℕ → ℕ
+sizeBy (given a) size = size
+sizeBy (refused k) size = 0
+
+unfoldable pub sizesOf : List Made → ℕ
+sizesOf [] = 0
+sizesOf (m ∷ calls) = sizeBy (carrySays (m .answer)) (m .size) + sizesOf calls
+
 -- pair i of a record
 abbrev pub pairAt : List Pair → ℕ → Pair
 pairAt pairs i = getD pairs i (pairOf 0 0)
@@ -102,12 +111,19 @@ pub record Ended (s asked : List ℕ) (handed : ℕ) (started end : List Pair) :
   pub others : (i : ℕ) → asks s asked i ≡ false → pairAt end i ≡ pairAt started i
   pub same-length : length end ≡ length started
 
--- "This is a single claim about the list of calls": each call, the joined output, the record at the end, and of the full list "All these pairs
--- stand by falling offset; in an accepted file no two offsets are equal."
+-- "This is a single claim about the list of calls": each call, the joined output, which is the first k of the full list with k "the sum of the
+-- sizes of the calls not refused, or the full list's length if that is less", the record at the end, and of the full list "All these pairs stand by
+-- falling offset; in an accepted file no two offsets are equal."
 pub record Walked (s asked : List ℕ) (started : List Pair) (calls : List Made) (end : List Pair) : Type 0 where
   pub handed : ℕ
-  pub within : handed ≤ length (fullList s asked)
+  pub counted : handed ≡ min (sizesOf calls) (length (fullList s asked))
   pub each : Told (fullList s asked) 0 started calls handed
   pub joined : outputOf calls ≡ flat (take handed (fullList s asked))
   pub ended : Ended s asked handed started end
   pub falls : (i j : ℕ) → i < j → j < length (fullList s asked) → pairAt (fullList s asked) j .offset < pairAt (fullList s asked) i .offset
+
+-- DEMAND 3: after a start that is not refused, any list of carry-on calls that keep their promises tells the full list
+abbrev pub Demand3 : Type 0
+Demand3 =
+    (s asked : List ℕ) (before started : List Pair) (calls : List Made) (end : List Pair)
+    → Started s asked before started → Kept s started calls end → Walked s asked started calls end

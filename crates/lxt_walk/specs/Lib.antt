@@ -1,11 +1,2 @@
 pub mod Calls
 pub mod Carrying
-pub mod Handed
-pub mod Wider
-pub mod Roots
-pub mod Full
-pub mod Record
-pub mod ColumnsLaws
-pub mod Telling
-pub mod Demand
-pub mod Examples

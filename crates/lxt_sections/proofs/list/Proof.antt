@@ -5,10 +5,10 @@ use Rattle.lxt_sections.proofs.list.Statement.{statement}
 use Rattle.lxt_sections.proofs.list.Tie as tie
 
 abbrev Inv-items : tie.InvT-items
-Inv-items file table₀ p₀ table p = Reading file p table
+Inv-items file met₀ p₀ met p = Reading file p met
 
 abbrev μ-items : tie.MeasureT-items
-μ-items file table₀ p₀ table p = p
+μ-items file met₀ p₀ met p = p
 
 fresh-requires : tie.Need-fresh-requires Inv-items μ-items
 fresh-requires c κs = search needs

@@ -25,8 +25,8 @@ use Rattle.lxt_chains.specs.Sorted.{Below, below-weaken, insert-first, each-sor
 use Rattle.lxt_chains.specs.Bridge.{all-roots}
 use Rattle.lxt_chains.specs.Check17.{Fits, stacked}
 use Rattle.lxt_chains.specs.Accepted.{Allowed, all-allowed, allowed-fits, apart-stacked}
-use Rattle.lxt_walk.specs.Roots.{asked-root}
-use Rattle.lxt_walk.specs.Wider.{pairsOf, below-pairs, pairs-chosen}
+use Rattle.lxt_format.specs.WalkLaws.{asked-root}
+use Rattle.lxt_walk.proofs.Wider.{pairsOf, below-pairs, pairs-chosen}
 
 -- by strictly falling offset
 pub data Falling : List Pair → Type 0 where

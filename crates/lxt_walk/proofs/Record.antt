@@ -15,7 +15,7 @@ use Rattle.lxt_format.specs.Walk.{sort, numbered, withOffsets, offsetsOf, pairA
 use Rattle.lxt_format.specs.declared.Pair.{Pair}
 use Rattle.lxt_chains.specs.Pending.{pairOf, pendingChanges, firstOf}
 use Rattle.lxt_chains.specs.Lists.{Each}
-use Rattle.lxt_walk.specs.Handed.{pending-first}
+use Rattle.lxt_walk.proofs.Handed.{pending-first}
 use Rattle.lxt_chains.specs.Accepted.{Allowed}
 
 -- ---- pairs in a buffer

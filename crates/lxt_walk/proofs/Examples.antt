@@ -10,7 +10,7 @@ use Rattle.lxt_format.specs.declared.StartAnswer.the-variants as ofStart
 use Rattle.lxt_format.specs.declared.CarryAnswer.the-variants as ofCarry
 use Rattle.lxt_chains.specs.Pending.{pairOf}
 use Rattle.lxt_walk.specs.Calls.{Started, Made, Kept, Walked}
-use Rattle.lxt_walk.specs.Demand.{demand-3}
+use Rattle.lxt_walk.proofs.Demand.{demand-3}
 
 -- the record holds one pair more than the trace has facilities
 abbrev record-of : ℕ → List Pair
@@ -35,4 +35,4 @@ kept =
     (Kept.call (refl, (refl, refl)) Kept.none))
 
 pub example : Walked trace (1 ∷ []) (record-of 6) three (record-of 0)
-example = demand-3 started kept
+example = demand-3 trace (1 ∷ []) (pairOf 5 5 ∷ pairOf 7 7 ∷ []) (record-of 6) three (record-of 0) started kept

@@ -12,7 +12,7 @@ use Rattle.lxt_format.specs.Columns.{paired, numbersIn, offsetsIn, onto}
 use Rattle.lxt_format.specs.Walk.{numbered, withOffsets}
 use Rattle.lxt_format.specs.declared.Pair.{Pair}
 use Rattle.lxt_chains.specs.Pending.{pairOf}
-use Rattle.lxt_walk.specs.Record.{offsets-numbered}
+use Rattle.lxt_walk.proofs.Record.{offsets-numbered}
 
 -- ---- the pairs of two lists
 

@@ -18,13 +18,13 @@ use Rattle.lxt_format.specs.Questions.{startRefusal, startRecord, carryRefusal,
 use Rattle.lxt_format.specs.declared.Pair.{Pair}
 use Rattle.lxt_chains.specs.Pending.{pairOf, pendingChanges, firstOf}
 use Rattle.lxt_chains.specs.Lists.{each-map, each-drop}
-use Rattle.lxt_walk.specs.Handed.{length-after, pending-first, call-hands, call-leaves, call-done}
+use Rattle.lxt_walk.proofs.Handed.{length-after, pending-first, call-hands, call-leaves, call-done}
 use Rattle.lxt_chains.specs.Bridge.{full-start, length-start}
 use Rattle.lxt_format.specs.JudgeLaws.{passed, accepted}
-use Rattle.lxt_walk.specs.Roots.{asked-below}
-use Rattle.lxt_walk.specs.Full.{full-asked, full-allowed, full-falling, falling-at}
-use Rattle.lxt_walk.specs.Record.{length-flat, flat-append, with-here, with-past, length-with, offsets-with, with-again, first-none, record-allowed}
-use Rattle.lxt_walk.specs.Calls.{Made, Carried, Kept, Refused, Handed, Told, handedBy, outputOf, pairAt, Ended, Walked}
+use Rattle.lxt_format.specs.WalkLaws.{asked-below}
+use Rattle.lxt_walk.proofs.Full.{full-asked, full-allowed, full-falling, falling-at}
+use Rattle.lxt_walk.proofs.Record.{length-flat, flat-append, with-here, with-past, length-with, offsets-with, with-again, first-none, record-allowed}
+use Rattle.lxt_walk.specs.Calls.{Made, Carried, Kept, Refused, Handed, Told, handedBy, outputOf, sizeBy, sizesOf, pairAt, Ended, Walked}
 
 module _ (s asked : List ℕ) (before : List Pair) (ok : startRefusal s asked (length before) ≡ 0) where
   -- the full list of the walk
@@ -153,30 +153,40 @@ module _ (s asked : List ℕ) (before : List Pair) (ok : startRefusal s asked (l
     handed : ℕ
     each : Told full e r calls handed
     joined : flat (take e full) ++ outputOf calls ≡ flat (take handed full)
+    counted : handed ≡ min (e + sizesOf calls) (length full)
     last : At handed end
 
   module _ (e : ℕ) (r end : List Pair) (a : At e r) (m : Made) (calls : List Made) (c : Carried s r m) where
     -- a refused call before them
     after-refusal : leb (2 * m .size) (length (m .buffer)) ≡ false → Ends e (m .left) calls end → Ends e r (m ∷ calls) end
-    unfolding outputOf handedBy
+    unfolding outputOf handedBy sizesOf sizeBy
     after-refusal b w =
         let t = tight e r a m c b in
-        record { handed = w .handed; each = Told.refusal t (w .each); joined = rw (t .number) (w .joined); last = w .last }
+        record {
+          handed = w .handed;
+          each = Told.refusal t (w .each);
+          joined = rw (t .number) (w .joined);
+          counted = rw (t .number) (omega (arith, w .counted));
+          last = w .last;
+        }
 
     -- a call before them that hands out
     after-handing : (b : leb (2 * m .size) (length (m .buffer)) ≡ true) → Ends (e + count e r a m c) (m .left) calls end → Ends e r (m ∷ calls) end
-    unfolding outputOf
-    after-handing b w = record {
-      handed = w .handed;
-      each = Told.handing (hands e r a m c b) (w .each);
-      joined = rw (← append-assoc, joins e r a m c b) (w .joined);
-      last = w .last;
-    }
+    unfolding outputOf sizesOf sizeBy
+    after-handing b w =
+        let h = hands e r a m c b in
+        record {
+          handed = w .handed;
+          each = Told.handing h (w .each);
+          joined = rw (← append-assoc, joins e r a m c b) (w .joined);
+          counted = rw (h .answers) (omega (arith, w .counted, a .within));
+          last = w .last;
+        }
 
   -- so all calls that keep their promises tell it
   all-calls : {r end : List Pair} {calls : List Made} (e : ℕ) → At e r → Kept s r calls end → Ends e r calls end
-  unfolding outputOf
-  all-calls e a Kept.none = record { handed = e; each = Told.none; joined = append-nil _; last = a }
+  unfolding outputOf sizesOf
+  all-calls e a Kept.none = record { handed = e; each = Told.none; joined = append-nil _; counted = omega (arith, a .within); last = a }
   all-calls {r} {end} e a (Kept.call {m = m} {calls = calls} c k) =
       let rest : (e′ : ℕ) → At e′ (m .left) → Ends e′ (m .left) calls end = λ e′ a′. all-calls e′ a′ k in
       on-test (leb (2 * m .size) (length (m .buffer)))
@@ -220,10 +230,10 @@ module _ (s asked : List ℕ) (before : List Pair) (ok : startRefusal s asked (l
   -- demand 3, with the record of the start written out
   pub walked : {calls : List Made} {end : List Pair} → Kept s (startRecord s asked before) calls end → Walked s asked (startRecord s asked before) calls end
   unfolding flat
-  walked k =
+  walked {calls} k =
       let w = all-calls 0 at-start k in record {
         handed = w .handed;
-        within = w .last .within;
+        counted = omega (arith, w .counted);
         each = w .each;
         joined = w .joined;
         ended = at-end (w .last);
