@@ -16,6 +16,7 @@ use Rattle.lxt_format.specs.BasicsLaws.{neither, kept, next-check, this-check}
 use Rattle.lxt_format.specs.Columns.{onto}
 use Rattle.lxt_format.specs.Limits.{longestPrinted}
 use Rattle.lxt_format.specs.Sections.{facilityCount}
+use Rattle.lxt_format.specs.WalkLaws.{all-asked}
 use Rattle.lxt_format.specs.Judge.{fileRefusal}
 use Rattle.lxt_tables.specs.Stage.{tablesOf}
 use Rattle.lxt_tables.specs.declared.Tables.{Tables}
@@ -111,7 +112,7 @@ module _ (s : List ℕ) (t : Tables) (w : Opened s t) where
   unfolding linesLeft acceptedText
   all-text name m tree nodes here all entry =
       let from : facilityCount s - 0 ≡ facilityCount s = omega arith in
-      rw (here, all, zero-add, from)
+      rw (here, all, zero-add, from, all-asked s)
 
   -- where the tree has all changes left, all lines are
   pub lines-begun : (name : List ℕ) → 1023 ≤ length name → (m : ℕ) (tree rest : List ℕ) → Waiting s t m tree → left s m tree ≡ allLeft s → (entry : Entry) → Last s entry

@@ -6,3 +6,4 @@ pub mod NamingLaws
 pub mod BeginLaws
 pub mod NextLaws
 pub mod FillLaws
+pub mod Printed

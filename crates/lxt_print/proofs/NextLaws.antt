@@ -28,7 +28,7 @@ use Rattle.lxt_print.proofs.LineLaws.{opened-known, facility-line}
 use Rattle.lxt_print.proofs.StepLaws.{line-fits}
 
 -- a line that ends in a line feed is not empty
-ended-some : (l : List ℕ) → 0 < length (l ++ newline)
+pub ended-some : (l : List ℕ) → 0 < length (l ++ newline)
 ended-some l = let e = length-append l newline in omega arith
 
 facility-some : (s : List ℕ) (f : ℕ) → 0 < length (facilityLine s f)

@@ -1,4 +1,4 @@
--- What the two calls of `lxt_print::printing` promise, and what any list of calls is to print. These are the words of `all-printed` (Printed).
+-- What the two calls of `lxt_print::printing` promise, and what any list of calls is to print. The claim is `PrintedTrace`, and `printed-trace` (proofs/Printed) its proof.
 use Prim.Native.Nat.{ℕ, _+_, _*_, _-_, _≤_, min}
 use mathlib.Core.Path.{_≡_}
 use mathlib.Core.Bool.{Bool, true, false, _||_}
@@ -80,9 +80,14 @@ unfoldable pub doneBy : List Made → Bool
 doneBy [] = false
 doneBy (m ∷ calls) = m .answer .done || doneBy calls
 
--- the calls print a text: as much of it as there is room for; a call says that it is done exactly where there is room for all, and then it is
--- the whole text
+-- calls print a text: as much of it as there is room for; one of them says that it is done exactly where there is room for all, and then all
+-- of it is printed
 pub record Prints (text : List ℕ) (calls : List Made) : Type 0 where
   pub joined : outputOf calls ≡ take (roomOf calls) text
   pub done : doneBy calls ≡ leb (length text) (roomOf calls)
   pub whole : doneBy calls ≡ true → outputOf calls ≡ text
+
+-- THE PRINTED TRACE: any list of calls of `fill` after a `begin` prints what is to be printed of the file, whatever the room of each
+abbrev pub PrintedTrace : Type 0
+PrintedTrace =
+    (s : List ℕ) (h : Held) (calls : List Made) → Begins s (h .state) (h .name) (h .nodes) (h .line) → Kept s h calls → Prints (printed s) calls

@@ -4,4 +4,3 @@ pub mod Placing
 pub mod Stepping
 pub mod Left
 pub mod Calls
-pub mod Printed

@@ -12,8 +12,8 @@ use Rattle.lxt_format.specs.Geometry.{isAlias, rootOf, ownFacts}
 use Rattle.lxt_format.specs.Times.{timeOf}
 use Rattle.lxt_format.specs.Changes.{digits}
 use Rattle.lxt_format.specs.Values.{Content, bits, real, text, notDriven, contentOf}
-use Rattle.lxt_format.specs.Judge.{fileRefusal, allChanges}
-use Rattle.lxt_format.specs.Walk.{sort}
+use Rattle.lxt_format.specs.Judge.{fileRefusal}
+use Rattle.lxt_format.specs.Walk.{fullList, allAsked}
 use Rattle.lxt_format.specs.declared.Kind.{Kind}
 use Rattle.lxt_format.specs.declared.Kind.the-variants.{Bits, Integer, Real, Text}
 use Rattle.lxt_format.specs.declared.Pair.{Pair}
@@ -112,8 +112,8 @@ refusedLine k = refusedWord ++ space ++ decimal k ++ newline
 unfoldable pub acceptedText : List ℕ → List ℕ
 acceptedText s =
     joined (facilityLine s) (range 0 (facilityCount s))
-    ++ joined (changeLine s) (sort (allChanges s))
-    ++ doneLine (length (sort (allChanges s)))
+    ++ joined (changeLine s) (fullList s (allAsked s))
+    ++ doneLine (length (fullList s (allAsked s)))
 
 -- "a trace of at most 65,536 bytes"; "longer input is 1"
 unfoldable pub printRefusal : List ℕ → ℕ
