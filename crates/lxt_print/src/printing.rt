@@ -16,6 +16,7 @@ use crate::text::put_bytes;
 use lxt_chains::tree;
 use lxt_chains::whole;
 use lxt_format::File;
+use lxt_format::NameCursor;
 use lxt_tables::Tables;
 use lxt_values::entries::Entry;
 use lxt_values::names::NamesLeft;
@@ -40,6 +41,16 @@ pub struct Printing {
     pub at: usize,
     pub size: usize,
     pub rest: Rest,
+}
+
+impl Printing {
+    // The memory that is lent: for a name, for the nodes of a tree, and for a line, of which a value is the
+    // longest part.
+    pub const NAME: usize = NameCursor::LONGEST;
+
+    pub const NODES: usize = 8_192;
+
+    pub const LINE: usize = 2 * File::LONGEST_PRINTED + 4_200;
 }
 
 // How many bytes were put into a buffer, whether they are the last, and what is left.
