@@ -1,8 +1,9 @@
 // Reads a trace of at most 65,536 bytes from standard input and prints it, as lxt_print puts it into a buffer;
 // what was put is written at once. Where a read or a write fails nothing more is written but a message on
 // standard error.
-ghost use Prim.Native.Nat.{_≤_, _<_};
+ghost use Prim.Native.Nat.{_<_};
 ghost use lib.ListN.{length};
+ghost use Rattle.io.specs.Counts.{Counts};
 ghost use Rattle.lxt_print.specs.Calls.{Lent};
 use libc::STDERR_FILENO;
 use libc::STDIN_FILENO;
@@ -19,7 +20,7 @@ struct Input {
 
 // Reads until the buffer is full, the input ends or a read fails.
 fn read_all(input: &mut [u8]) -> Input
-    ensures { λ r. ⌜ r .size ≤ length (now (input .exit)) ⌝ }
+    ensures { λ r. ⌜ Counts (r .size) (now (input .exit)) ⌝ }
 {
     let mut size = 0;
     while size < input.len() {
@@ -40,6 +41,15 @@ fn read_all(input: &mut [u8]) -> Input
     }
 }
 
+// Writes all bytes to standard output, or says that a write failed.
+fn write(bytes: &[u8]) -> bool {
+    if io::write_all(STDOUT_FILENO, bytes) {
+        return true;
+    }
+    io::write_all(STDERR_FILENO, b"lxt_dump: a write failed\n");
+    false
+}
+
 // Fills the buffer and writes what was filled, up to the last byte or to a write that fails.
 fn print(file: &[u8], name: &mut [u8], nodes: &mut [u32], line: &mut [u8], out: &mut [u8])
     requires { ⌜ Lent (now name) (now nodes) (now line) × (0 < length (now out)) ⌝ }
@@ -48,11 +58,8 @@ fn print(file: &[u8], name: &mut [u8], nodes: &mut [u32], line: &mut [u8], out: 
     loop {
         let filled = printing::fill(file, left, name, nodes, line, out);
         let size = filled.size;
-        if !io::write_all(STDOUT_FILENO, &out[..size]) {
-            io::write_all(STDERR_FILENO, b"lxt_dump: a write failed\n");
-            return;
-        }
-        if filled.done {
+        let written = write(&out[..size]);
+        if !written | filled.done {
             return;
         }
         left = filled.left;
