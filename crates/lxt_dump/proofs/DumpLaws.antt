@@ -1,5 +1,5 @@
 -- Laws of filling and writing, one buffer after the other.
-use Prim.Native.Nat.{ℕ, _-_, _≤_, _<_, min}
+use Prim.Native.Nat.{ℕ, _-_, _≤_, _<_}
 use native.Mathlib.Omega.{arith}
 use mathlib.Core.Path.{_≡_, sym, _∙_}
 use mathlib.Core.Bool.{Bool, false, not, _||_}
@@ -8,7 +8,7 @@ use lib.ListN.{length, take, length-drop}
 use lib.Seq.{length-take-le}
 use borrow.Author.Tests.{eqb-false}
 use Rattle.lxt_format.specs.BasicsLaws.{or-none}
-use Rattle.lxt_print.specs.Left.{leftText, Sound}
+use Rattle.lxt_print.specs.Left.{leftText}
 use Rattle.lxt_print.specs.Calls.{Fills}
 use Rattle.lxt_print.specs.declared.printing.Printing.{Printing}
 use Rattle.lxt_print.specs.declared.printing.Filled.{Filled}

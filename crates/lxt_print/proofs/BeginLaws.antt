@@ -1,17 +1,17 @@
 -- Laws of the start: the refusal of a file, the tree from which all changes are left, and that all lines are left.
-use Prim.Native.Nat.{ℕ, zero, suc, _+_, _*_, _-_, _≤_, _<_}
+use Prim.Native.Nat.{ℕ, suc, _+_, _*_, _-_, _≤_, _<_}
 use native.Mathlib.Nat.{zero-add, le-refl}
 use native.Mathlib.Numerals.{add-one}
 use native.Mathlib.Omega.{arith}
 use native.Mathlib.Decide.{decLe}
-use mathlib.Core.Path.{_≡_, refl, sym, ap, _∙_}
+use mathlib.Core.Path.{_≡_, refl, sym, _∙_}
 use mathlib.Core.Bool.{true, false, true≢false}
-use mathlib.Core.List.{List, [], _∷_, _++_, append-nil}
-use lib.ListN.{length, getD, set, take, drop, replicate, length-append, length-replicate, length-set, getD-replicate, replicate-append-replicate, drop-of-length-le, List·getD-eq-default}
+use mathlib.Core.List.{List, _++_, append-nil}
+use lib.ListN.{length, getD, set, take, drop, replicate, length-replicate, length-set, getD-replicate, replicate-append-replicate, drop-of-length-le, List·getD-eq-default}
 use lib.Seq.{length-take-le, drop-cons, set-at, append-snoc, take-at, take-append-seam}
 use lib.Dec.{leb, lit<}
 use borrow.Author.Tests.{leb-true, le-leb, lt-leb, ne-eqb}
-use Rattle.lxt_format.specs.Basics.{if_then_else_, _unless_}
+use Rattle.lxt_format.specs.Basics.{_unless_}
 use Rattle.lxt_format.specs.BasicsLaws.{neither, kept, next-check, this-check}
 use Rattle.lxt_format.specs.Columns.{onto}
 use Rattle.lxt_format.specs.Limits.{longestPrinted}

@@ -1,17 +1,15 @@
 -- Laws of filling a buffer: what was put and what is left make what was left at the start.
-use Prim.Native.Nat.{ℕ, zero, suc, _+_, _*_, _-_, _≤_, _<_, min}
+use Prim.Native.Nat.{ℕ, _+_, _-_, _≤_, _<_, min}
 use native.Mathlib.Omega.{arith}
-use native.Mathlib.Nat.{add-zero, zero-add}
 use mathlib.Core.Path.{_≡_, refl, sym, ap, _∙_}
-use mathlib.Core.Bool.{Bool, true, false, true≢false, false≢true, _&&_, _||_}
-use mathlib.Core.List.{List, [], _∷_, _++_, append-assoc, append-nil}
+use mathlib.Core.Bool.{true, false, _&&_, _||_}
+use mathlib.Core.List.{List, [], _++_}
 use lib.ListN.{length, take, drop, length-append, length-take, length-drop, take-append-drop}
-use lib.Seq.{slice, length-slice, slice-empty, take-all, take-add, take-append-le, drop-append-le, drop-drop, length-take-le, take-take}
+use lib.Seq.{slice, length-slice, slice-empty, take-add, take-append-le, drop-append-le, drop-drop, length-take-le}
 use lib.Dec.{eqb}
 use borrow.Author.Tests.{eq-eqb, ne-eqb, eqb-true, eqb-false}
-use Rattle.lxt_format.specs.Basics.{if_then_else_, range, joined}
-use Rattle.lxt_format.specs.BasicsLaws.{on-test, or-either, or-none}
-use Rattle.lxt_format.specs.Columns.{onto}
+use Rattle.lxt_format.specs.Basics.{range, joined}
+use Rattle.lxt_format.specs.BasicsLaws.{on-test, or-none}
 use Rattle.lxt_format.specs.Sections.{facilityCount}
 use Rattle.lxt_print.specs.Lines.{facilityLine, changeLine, doneLine}
 use Rattle.lxt_print.specs.Placing.{Put}

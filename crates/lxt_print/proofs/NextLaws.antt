@@ -1,14 +1,14 @@
 -- Laws of the next line: what is left before it is put is the line, then what is left after it.
-use Prim.Native.Nat.{ℕ, zero, suc, _+_, _*_, _-_, _≤_, _<_}
+use Prim.Native.Nat.{ℕ, suc, _+_, _*_, _-_, _≤_, _<_}
 use native.Mathlib.Omega.{arith}
 use native.Mathlib.Nat.{add-zero}
 use native.Mathlib.Numerals.{add-one}
 use mathlib.Core.Path.{_≡_, refl, sym, ap, _∙_}
 use mathlib.Core.Bool.{true, false, true≢false}
-use mathlib.Core.List.{List, [], _∷_, _++_, append-assoc, append-nil}
+use mathlib.Core.List.{List, [], _++_, append-assoc, append-nil}
 use lib.ListN.{length, take, drop, length-append, length-take, length-drop}
 use lib.Seq.{take-at, take-append-seam}
-use Rattle.lxt_format.specs.Basics.{if_then_else_, range, joined}
+use Rattle.lxt_format.specs.Basics.{range, joined}
 use Rattle.lxt_format.specs.BasicsLaws.{range-upto, range-done, on-zero}
 use Rattle.lxt_format.specs.Columns.{onto}
 use Rattle.lxt_format.specs.Sections.{facilityCount}
@@ -19,13 +19,13 @@ use Rattle.lxt_chains.specs.Pending.{pendingChanges}
 use Rattle.lxt_chains.specs.Step.{sorted-quiet, sorted-step, length-left}
 use Rattle.lxt_values.specs.declared.entries.Entry.{Entry}
 use Rattle.lxt_values.specs.declared.names.NamesLeft.{NamesLeft}
-use Rattle.lxt_print.specs.Lines.{decimal, space, newline, doneWord, facilityLine, changeLine, doneLine}
+use Rattle.lxt_print.specs.Lines.{decimal, space, newline, doneWord, facilityLine, doneLine}
 use Rattle.lxt_print.specs.Placing.{NamesAt, facilityHead, facilityEnd}
-use Rattle.lxt_print.specs.Stepping.{left, Waiting, Timed, nextLine, quiet-line, next-line, next-after, zero-quiet}
-use Rattle.lxt_print.specs.Left.{treeOf, changesLeft, linesLeft, leftText, Going, Roomy, Sound, NextLine}
+use Rattle.lxt_print.specs.Stepping.{Waiting, Timed, nextLine}
+use Rattle.lxt_print.specs.Left.{treeOf, changesLeft, linesLeft, leftText, Going, Roomy, NextLine}
 use Rattle.lxt_print.specs.declared.printing.Rest.{Rest}
 use Rattle.lxt_print.proofs.LineLaws.{opened-known, facility-line}
-use Rattle.lxt_print.proofs.StepLaws.{line-fits}
+use Rattle.lxt_print.proofs.StepLaws.{quiet-line, next-line, next-after, zero-quiet, line-fits}
 
 -- a line that ends in a line feed is not empty
 pub ended-some : (l : List ℕ) → 0 < length (l ++ newline)

@@ -1,19 +1,18 @@
 -- The printed trace, proved: what calls of `fill` put, joined, is what was left where they begin. The claim and its words stand in specs/Calls.
-use Prim.Native.Nat.{ℕ, zero, suc, _+_, _-_, _≤_, _<_, min}
+use Prim.Native.Nat.{ℕ, zero, suc, _+_, _-_, _<_, min}
 use native.Mathlib.Omega.{arith}
-use native.Mathlib.Nat.{add-zero}
 use mathlib.Core.Path.{_≡_, refl, sym, ap, _∙_}
-use mathlib.Core.Bool.{Bool, true, false, _||_}
+use mathlib.Core.Bool.{false, _||_}
 use mathlib.Core.List.{List, [], _∷_, _++_}
 use lib.ListN.{length, take, drop, length-append, length-take, length-drop}
 use lib.Seq.{take-all, take-at, take-nil, drop-nil}
 use lib.Dec.{leb, eqb}
-use borrow.Author.Tests.{leb-true, leb-false, le-leb, lt-leb, eqb-true, eq-eqb, ne-eqb, eqb-false}
-use Rattle.lxt_format.specs.Basics.{if_then_else_, range, joined}
+use borrow.Author.Tests.{leb-true, leb-false, le-leb, lt-leb, eqb-true, eqb-false}
+use Rattle.lxt_format.specs.Basics.{range, joined}
 use Rattle.lxt_format.specs.BasicsLaws.{on-test}
 use Rattle.lxt_format.specs.Sections.{facilityCount}
 use Rattle.lxt_format.specs.Walk.{fullList, allAsked}
-use Rattle.lxt_print.specs.Lines.{decimal, space, newline, refusedWord, facilityLine, changeLine, doneLine, refusedLine, acceptedText, printRefusal, printed}
+use Rattle.lxt_print.specs.Lines.{decimal, space, refusedWord, facilityLine, changeLine, doneLine, refusedLine, acceptedText, printRefusal, printed}
 use Rattle.lxt_print.specs.Left.{leftText}
 use Rattle.lxt_print.specs.Calls.{Begins, Held, Made, heldAfter, Keeps, Kept, roomOf, outputOf, doneBy, PrintedTrace}
 use Rattle.lxt_print.proofs.NextLaws.{done-some, ended-some}

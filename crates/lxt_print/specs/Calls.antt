@@ -1,5 +1,5 @@
 -- What the two calls of `lxt_print::printing` promise, and what any list of calls is to print. The claim is `PrintedTrace`, and `printed-trace` (proofs/Printed) its proof.
-use Prim.Native.Nat.{ℕ, _+_, _*_, _-_, _≤_, min}
+use Prim.Native.Nat.{ℕ, _+_, _*_, _≤_, min}
 use mathlib.Core.Path.{_≡_}
 use mathlib.Core.Bool.{Bool, true, false, _||_}
 use mathlib.Core.List.{List, [], _∷_, _++_}

@@ -1,6 +1,5 @@
 -- Paper 01, "A small program": the lines that it prints, as ASCII bytes. "Fields are joined by one space", and each line ends in one line feed.
 use Prim.Native.Nat.{ℕ, zero, suc, _+_, _/_, _%_}
-use mathlib.Core.Bool.{Bool, true, false}
 use mathlib.Core.List.{List, [], _∷_, _++_}
 use lib.ListN.{length, take, drop}
 use lib.Dec.{leb, ltb, eqb}

@@ -1,6 +1,5 @@
 use borrow.Author.Needs.{needs}
 use Rattle.lxt_print.proofs.NextLaws.{tree-fits, last-next, count-small, change-next}
-use native.Mathlib.Omega.{arith}
 use Rattle.lxt_print.proofs.printing.next_change.Statement.{statement}
 use Rattle.lxt_print.proofs.printing.next_change.Tie as tie
 
