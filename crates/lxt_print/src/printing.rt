@@ -1,8 +1,10 @@
-// A trace printed into lent buffers of any length, one after the other: a state is left by each call to the next.
+// A trace printed into lent buffers of any length, one after the other. Each call leaves a state to the next,
+// with the memory lent for it: the name before the next one, the tree of pending offsets, and the line put last.
 ghost use mathlib.Core.Path.{_≡_};
 ghost use mathlib.Core.Bool.{true};
-ghost use Prim.Native.Nat.{_+_, _-_, _≤_, _<_, min};
+ghost use Prim.Native.Nat.{_*_, _-_, _≤_, _<_, min};
 ghost use lib.ListN.{length, take, drop, replicate};
+ghost use Rattle.lxt_format.specs.Limits.{longestName, mostFacilities};
 ghost use Rattle.lxt_format.specs.Judge.{fileRefusal};
 ghost use Rattle.lxt_chains.specs.Tree.{Room};
 ghost use Rattle.lxt_print.specs.Lines.{printRefusal};
@@ -17,6 +19,7 @@ use lxt_chains::tree;
 use lxt_chains::whole;
 use lxt_format::File;
 use lxt_format::NameCursor;
+use lxt_format::Summary;
 use lxt_tables::Tables;
 use lxt_values::entries::Entry;
 use lxt_values::names::NamesLeft;
@@ -48,7 +51,7 @@ impl Printing {
     // longest part.
     pub const NAME: usize = NameCursor::LONGEST;
 
-    pub const NODES: usize = 8_192;
+    pub const NODES: usize = 2 * Summary::MOST_FACILITIES as usize;
 
     pub const LINE: usize = 2 * File::LONGEST_PRINTED + 4_200;
 }
@@ -60,7 +63,7 @@ pub struct Filled {
     pub left: Printing,
 }
 
-// No line is left.
+// What is left where no line is.
 fn over(t: Tables) -> Rest
     ensures { λ r. ⌜ r .over ≡ true ⌝ }
 {
@@ -83,7 +86,7 @@ fn over(t: Tables) -> Rest
     }
 }
 
-// The refusal of a file that is printed, its length allowed.
+// The refusal k of a file, or 1 where the file is too long to be printed.
 fn refusal(file: &[u8], k: u8) -> u8
     requires { ⌜ k ≡ fileRefusal (now file) ⌝ }
     ensures { λ r. ⌜ r ≡ printRefusal (now (file .entry)) ⌝ }
@@ -113,9 +116,9 @@ fn plant(file: &[u8], t: Tables, nodes: &mut [u32], m: usize)
     changes::start(file, t, nodes, m);
 }
 
-// All lines of an accepted file are left.
+// What is left where all lines of an accepted file are.
 fn all_lines(file: &[u8], t: Tables, name: &[u8], nodes: &mut [u32]) -> Rest
-    requires { ⌜ Opened (now file) t × ((1023 ≤ length (now name)) × (8192 ≤ length (now nodes))) ⌝ }
+    requires { ⌜ Opened (now file) t × ((longestName ≤ length (now name)) × (2 * mostFacilities ≤ length (now nodes))) ⌝ }
     ensures { λ r. ⌜ AllLines (now (file .entry)) r (now (name .entry)) (now (nodes .exit)) ⌝ }
 {
     let m = tree::leaves_for(t.facilities as usize);
@@ -136,7 +139,7 @@ fn all_lines(file: &[u8], t: Tables, name: &[u8], nodes: &mut [u32]) -> Rest
     }
 }
 
-// All that is to be printed of a file is left.
+// The state in which all that is to be printed of a file is left.
 pub fn begin(file: &[u8], name: &[u8], nodes: &mut [u32], line: &mut [u8]) -> Printing
     requires { ⌜ Lent (now name) (now nodes) (now line) ⌝ }
     ensures { λ r. ⌜ Begins (now (file .entry)) r (now (name .entry)) (now (nodes .exit)) (now (line .exit)) ⌝ }
@@ -216,6 +219,7 @@ fn next_change(
     }
 }
 
+// Puts the next line.
 fn next_line(file: &[u8], r: Rest, name: &mut [u8], nodes: &mut [u32], line: &mut [u8]) -> Printing
     requires { ⌜ Going (now file) r (now name) (now nodes) × Roomy (now file) (now line) ⌝ }
     ensures { λ p. ⌜ NextLine (now (file .entry)) r (now (nodes .entry)) p (now (name .exit)) (now (nodes .exit)) (now (line .exit)) ⌝ }
