@@ -7,7 +7,8 @@ use lib.ListN.{set, take, drop, replicate}
 use lib.IntN.{ℤ, pos, negsuc}
 use lib.Ieee.{binary64, ofBits}
 use Rattle.lxt_format.specs.Limits.{longestFile}
-use Rattle.lxt_format.specs.Basics.{Answer, given, refused, range}
+use Rattle.lxt_format.specs.Basics.{_unless_, Answer, given, refused, range}
+use Rattle.lxt_format.specs.Sections.{countAllowed}
 use Rattle.lxt_format.specs.Names.{nameOf}
 use Rattle.lxt_format.specs.Changes.{previousOf}
 use Rattle.lxt_format.specs.Values.{symbolOf}
@@ -119,6 +120,8 @@ neighbours =
     ∷ row 8 (fileRefusal (endItem 0x0000000307)) 8
     ∷ row 8 (fileRefusal (endItem 0x0000004307)) 0
     ∷ row 8 (fileRefusal (endItem 0x0000FF0008)) 0
+    ∷ row 9 (9 unless countAllowed 4096) 0
+    ∷ row 9 (9 unless countAllowed 4097) 9
     ∷ row 10 (fileRefusal (with32 trace nameMemory 1)) 10
     ∷ row 10 (fileRefusal (with16 trace namePrefix 1)) 10
     ∷ row 10 (fileRefusal (set trace nameZero 0x61)) 10
@@ -242,8 +245,17 @@ neighbours =
 pub neighbours-hold : Holds neighbours
 unfolding everything trace mixed spelled endItem nearerEnd testPastEnd quiet twoTexts neighbours
 neighbours-hold =
-    (refl, (refl, (refl, (refl, (refl, (refl, (refl, (refl, (refl, (refl, (refl, (refl, (refl, (refl, (refl, (refl, (refl, (refl, (refl, (refl, (refl, (refl, (refl, (refl, (refl, (refl, (refl, (refl, (refl, (refl, (refl, (refl, (refl, (refl, (refl, (refl, (refl, (refl, (refl, (refl, (refl, (refl, (refl, (refl, (refl, (refl, (refl, (refl, (refl, (refl, (refl, (refl, (refl, (refl, (refl, (refl, (refl, (refl, (refl, (refl, (refl, (refl, (refl, (refl, (refl, (refl, (refl, (refl, (refl, (refl, (refl, (refl, (refl, (refl, (refl, (refl, (refl, (refl, (refl, (refl, (refl, (refl, (refl, (refl, (refl, (refl, (refl, (refl, (refl, (refl, (refl, (refl, (refl, (refl, (refl, (refl, (refl, (refl, (refl, (refl, (refl, (refl, (refl, (refl, (refl, (refl, (refl, (refl, (refl, (refl, (refl, (refl, (refl, (refl, (refl, (refl, (refl, (refl, (refl, (refl, (refl, (refl, (refl, (refl, (refl, (refl, (refl, (refl, (refl, (refl, (refl, (refl, (refl, (refl, (refl, (refl, (refl, (refl, (refl, (refl, (refl, (refl, (refl, (refl, (refl, (refl, (refl, (refl, (refl, (refl, (refl, (refl, (refl, (refl, (refl, (refl, (refl, (refl, (refl, (refl, (refl, (refl, (refl, (refl, (refl, (refl, (refl, tt)))))))))))))))))))))))))))))))))))))))))))))))))))))))))))))))))))))))))))))))))))))))))))))))))))))))))))))))))))))))))))))))))))))))))))))))))))))))))))))))))))))))
+    (refl, (refl, (refl, (refl, (refl, (refl, (refl, (refl, (refl, (refl, (refl, (refl, (refl, (refl, (refl, (refl, (refl, (refl, (refl, (refl, (refl, (refl, (refl, (refl, (refl, (refl, (refl, (refl, (refl, (refl, (refl, (refl, (refl, (refl, (refl, (refl, (refl, (refl, (refl, (refl, (refl, (refl, (refl, (refl, (refl, (refl, (refl, (refl, (refl, (refl, (refl, (refl, (refl, (refl, (refl, (refl, (refl, (refl, (refl, (refl, (refl, (refl, (refl, (refl, (refl, (refl, (refl, (refl, (refl, (refl, (refl, (refl, (refl, (refl, (refl, (refl, (refl, (refl, (refl, (refl, (refl, (refl, (refl, (refl, (refl, (refl, (refl, (refl, (refl, (refl, (refl, (refl, (refl, (refl, (refl, (refl, (refl, (refl, (refl, (refl, (refl, (refl, (refl, (refl, (refl, (refl, (refl, (refl, (refl, (refl, (refl, (refl, (refl, (refl, (refl, (refl, (refl, (refl, (refl, (refl, (refl, (refl, (refl, (refl, (refl, (refl, (refl, (refl, (refl, (refl, (refl, (refl, (refl, (refl, (refl, (refl, (refl, (refl, (refl, (refl, (refl, (refl, (refl, (refl, (refl, (refl, (refl, (refl, (refl, (refl, (refl, (refl, (refl, (refl, (refl, (refl, (refl, (refl, (refl, (refl, (refl, (refl, (refl, (refl, (refl, (refl, (refl, (refl, (refl, tt)))))))))))))))))))))))))))))))))))))))))))))))))))))))))))))))))))))))))))))))))))))))))))))))))))))))))))))))))))))))))))))))))))))))))))))))))))))))))))))))))))))))))
 
+-- refusal 9 of a whole file, which is long: a table of its own
+pub large : List Row
+large = row 9 (fileRefusal (crowded 4097)) 9 ∷ []
+
+pub large-holds : Holds large
+unfolding everything spelled large
+large-holds = (refl, tt)
+
+-- the answers of the trace `mixed`
 pub answers : List Row
 answers =
     row 1 (judge mixed) (judged (negsuc 11) 1)
