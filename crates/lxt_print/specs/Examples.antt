@@ -33,8 +33,8 @@ unfolding everything trace spelled decimalWithin decimal refusedWord refusedLine
 refused-command = refl
 
 -- a byte more than the longest: "refused 1", whatever the bytes
-pub refused-longer : (s : List ℕ) → length s ≡ 65537 → printed s ≡ spelled 10 0x7265667573656420310A
-unfolding everything spelled decimalWithin decimal refusedWord refusedLine printRefusal printed
+pub refused-longer : (s : List ℕ) → length s ≡ 65537 → printed s ≡ refusedLine 1
+unfolding printRefusal printed
 refused-longer s h = rw h
 
 -- the longest is judged
