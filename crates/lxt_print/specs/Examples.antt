@@ -1,10 +1,11 @@
 -- "For the trace below it prints four lines, exactly"; lines of refused files; and both sides of the longest file that is printed.
-use mathlib.Core.Path.{_≡_, refl}
+use mathlib.Core.Path.{_≡_, refl, _∙_}
 use mathlib.Core.List.{List, [], _++_}
 use lib.ListN.{length, set}
 use lib.Dec.{eqb}
 use Prim.Native.Nat.{ℕ}
 use Rattle.lxt_format.specs.Basics.{if_then_else_}
+use Rattle.lxt_format.specs.Changes.{digits}
 use Rattle.lxt_format.specs.Judge.{fileRefusal}
 use Rattle.lxt_format.specs.Everything.{everything}
 use Rattle.lxt_format.specs.Traces.{spelled, trace}
@@ -22,7 +23,12 @@ pub prints-four-lines : printed trace ≡ four-lines
 unfolding everything trace spelled decimalWithin decimal hexDigit hexByte hexBytes facilityWord changeWord doneWord refusedWord aliasWord kindWord facilityLine valueText changeLine doneLine refusedLine acceptedText printRefusal printed
 prints-four-lines = refl
 
--- an empty file: "refused 1"
+-- "refused 1"
+refused-1 : refusedLine 1 ≡ spelled 10 0x7265667573656420310A
+unfolding spelled digits decimalWithin decimal refusedWord refusedLine
+refused-1 = refl
+
+-- an empty file
 pub refused-empty : printed [] ≡ spelled 10 0x7265667573656420310A
 unfolding everything spelled decimalWithin decimal refusedWord refusedLine acceptedText printRefusal printed
 refused-empty = refl
@@ -32,12 +38,16 @@ pub refused-command : printed (set trace 4 0x0C) ≡ spelled 11 0x72656675736564
 unfolding everything trace spelled decimalWithin decimal refusedWord refusedLine acceptedText printRefusal printed
 refused-command = refl
 
--- a byte more than the longest: "refused 1", whatever the bytes
-pub refused-longer : (s : List ℕ) → length s ≡ 65537 → printed s ≡ refusedLine 1
-unfolding printRefusal printed
-refused-longer s h = rw h
+module _ (s : List ℕ) where
+  -- a byte more than the longest is refused, whatever the bytes
+  longer : length s ≡ 65537 → printed s ≡ refusedLine 1
+  unfolding printRefusal printed
+  longer h = rw h
 
--- the longest is judged
-pub judged-longest : (s : List ℕ) → length s ≡ 65536 → printed s ≡ (if eqb (fileRefusal s) 0 then acceptedText s else refusedLine (fileRefusal s))
-unfolding printRefusal printed
-judged-longest s h = rw h
+  pub refused-longer : length s ≡ 65537 → printed s ≡ spelled 10 0x7265667573656420310A
+  refused-longer h = longer h ∙ refused-1
+
+  -- the longest is judged
+  pub judged-longest : length s ≡ 65536 → printed s ≡ (if eqb (fileRefusal s) 0 then acceptedText s else refusedLine (fileRefusal s))
+  unfolding printRefusal printed
+  judged-longest h = rw h
