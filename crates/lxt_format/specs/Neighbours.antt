@@ -17,7 +17,10 @@ use Rattle.lxt_format.specs.Walk.{fullList}
 use Rattle.lxt_format.specs.Answers.{bitsOf, realOf, textOf, nothing}
 use Rattle.lxt_format.specs.Questions.{factsAsked, rootAsked, nameAsked, namePart, nameBuffer, beforeAsked, changeAsked, changeBuffer, valueAsked, valueBuffer, startAsked, startRecord, carryAsked, carryRecord, carryOutput}
 use Rattle.lxt_format.specs.Everything.{everything}
-use Rattle.lxt_format.specs.Traces.{spelled, with16, with32, trace, version, oldestDelta, newestCommand, newestDelta, nameMemory, namePrefix, nameZero, rows, msb, lsb, flags, syncEntry, entries, firstOfTimes, lastOfTimes, positionDelta0, positionDelta1, timeDelta0, timeDelta1, changesValue, syncValue, namesValue, geometryValue, timesValue, lastByte, facilitiesNamed, crowded, mixed, command5, delta5, data5, command8, delta8, command14, command24, data29, command37, entriesOfMixed, syncOfMixed, rowsOfMixed, msbOfMixed, lsbOfMixed, flagsOfMixed, timescaleByte, initialByte, realTest, testValue}
+use Rattle.lxt_format.specs.Traces.{spelled, with16, with32, facilitiesNamed, crowded}
+use Rattle.lxt_format.specs.Traces.{trace, version, oldestDelta, newestCommand, newestDelta, nameMemory, namePrefix, nameZero, rows, msb, lsb, flags, syncEntry}
+use Rattle.lxt_format.specs.Traces.{entries, firstOfTimes, lastOfTimes, positionDelta0, positionDelta1, timeDelta0, timeDelta1, changesValue, syncValue, namesValue, geometryValue, timesValue, lastByte}
+use Rattle.lxt_format.specs.Traces.{mixed, command5, delta5, data5, command8, delta8, command14, command24, data29, command37, entriesOfMixed, syncOfMixed, rowsOfMixed, msbOfMixed, lsbOfMixed, flagsOfMixed, timescaleByte, initialByte, realTest, testValue}
 use Rattle.lxt_format.specs.Examples.{Row, row, Holds, pair}
 use Rattle.lxt_format.specs.declared.Summary.{Summary}
 use Rattle.lxt_format.specs.declared.Pair.{Pair}
