@@ -1,4 +1,5 @@
 pub mod ChainLaws
 pub mod TreeLaws
+pub mod NextLaws
 pub mod ApartLaws
 pub mod WholeWays

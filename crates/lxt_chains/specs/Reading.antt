@@ -45,6 +45,12 @@ facilityFault s f = if isAlias s f then 0 else faultFrom s f (syncOf s f)
 unfoldable pub rootOffset : List ℕ → ℕ → ℕ
 rootOffset s f = if isAlias s f then 0 else syncOf s f
 
+-- pending offsets from which on every change is allowed, in a file in which T lies and whose offsets fit in 32 bits
+pub record Readable (s os : List ℕ) : Type 0 where
+  pub short : length s ≤ longestFile
+  pub inside : endOf s ≤ length s
+  pub each : Each (Allowed s) (sort (pendingChanges s 0 os))
+
 -- a pending offset for each facility and 0 past them, from which on every change is allowed
 pub record Pending (s : List ℕ) (c : Chains) (os : List ℕ) : Type 0 where
   pub past : (i : ℕ) → c .facilities ≤ i → getD os i 0 ≡ 0

@@ -2,5 +2,6 @@
 // order of changes (Sorted, Step) and of check 17 by neighbours (Check17, Accepted) stand in specs/.
 pub mod apart;
 pub mod chains;
+pub mod next;
 pub mod tree;
 pub mod whole;
