@@ -86,7 +86,7 @@ pub fn all_apart(file: &[u8], c: Chains) -> bool
     requires { ⌜ Ready (now file) c × (chainsRefusal (now file) ≡ 0) ⌝ }
     ensures { λ r. ⌜ r ≡ changesApart (now (file .entry)) ⌝ }
 {
-    let mut nodes = [0u32; 8192];
+    let mut nodes = [0u32; tree::NODES];
     let n = c.facilities as usize;
     let m = tree::leaves_for(n);
     apart_within(file, c, &mut nodes[..2 * m], m)
