@@ -10,15 +10,15 @@ use Rattle.lxt_format.specs.Sections.{endOf}
 use Rattle.lxt_format.specs.Geometry.{isAlias, syncOf}
 use Rattle.lxt_format.specs.Judge.{endAt, changesApart, chainsRefusal}
 use Rattle.lxt_format.specs.Walk.{sort, top, high, offsetsAfter}
-use Rattle.lxt_chains.specs.Pending.{pairOf, pendingChanges, rootOffsets}
-use Rattle.lxt_chains.specs.Sorted.{each-sort}
-use Rattle.lxt_chains.specs.Bridge.{all-roots, length-roots, getD-roots}
-use Rattle.lxt_chains.specs.Check17.{stacked}
-use Rattle.lxt_chains.specs.Accepted.{all-allowed, allowed-sound, apart-stacked}
+use Rattle.lxt_chains.specs.Pending.{pairOf, pendingChanges, rootOffsets, stacked}
+use Rattle.lxt_chains.proofs.Sorted.{each-sort}
+use Rattle.lxt_chains.proofs.Step.{sorted-quiet}
+use Rattle.lxt_chains.proofs.Bridge.{all-roots, length-roots, getD-roots}
+use Rattle.lxt_chains.proofs.Accepted.{all-allowed, allowed-sound, apart-stacked}
 use Rattle.lxt_chains.specs.Reading.{Ready, Stepping, Readable, Pending, rootOffset}
 use Rattle.lxt_chains.specs.Tree.{Holding}
 use Rattle.lxt_chains.proofs.TreeLaws.{Filled, fill-ended}
-use Rattle.lxt_chains.proofs.NextLaws.{Took, none-left, took, number-below, past-after, same-changes}
+use Rattle.lxt_chains.proofs.NextLaws.{Took, took, number-below, past-after, same-changes}
 use Rattle.lxt_chains.specs.declared.chains.Chains.{Chains}
 
 -- ---- the changes that are left
@@ -42,16 +42,16 @@ module _ (s : List ℕ) (c : Chains) (os₀ : List ℕ) (bound : ℕ) (os : List
   -- nothing is left
   pub sweep-ended : o ≡ 0 → true ≡ stacked (endAt s) (endOf s) (sort (pendingChanges s 0 os₀))
   unfolding stacked
-  sweep-ended z = (rw (none-left s os f o ef eo os′ ea z) at (v .same))
+  sweep-ended z = (rw (sorted-quiet s os (sym eo ∙ z)) at (v .same))
 
   module _ (some : o ≡ 0 → ⊥) where
     taken : Took s os f o os′
-    taken = took s os f o ef eo os′ ea some (readable s c os w (v .pending))
+    taken = took s os f o ef eo some os′ ea (readable s c os w (v .pending))
 
     -- the change that was taken is that of a root
     pub stepping : Stepping s c f o bound
     stepping = record {
-      number = number-below s os f o ef eo os′ ea some (c .facilities) (v .pending .past);
+      number = number-below s os f o ef eo some (c .facilities) (v .pending .past);
       root = taken .allowed .root;
       offset = rw (w .end) (allowed-sound s (taken .allowed) .before);
       bounded = v .bounded;
@@ -75,7 +75,7 @@ module _ (s : List ℕ) (c : Chains) (os₀ : List ℕ) (bound : ℕ) (os : List
       next-change h = record {
         same = (rw h at here);
         bounded = let a = stepping .offset in omega arith;
-        pending = record { past = past-after s os f o ef eo os′ ea some (c .facilities) (v .pending .past); each = taken .readable .each };
+        pending = record { past = past-after s os f o ef eo some os′ ea (c .facilities) (v .pending .past); each = taken .readable .each };
       }
 
     -- one change fewer is left

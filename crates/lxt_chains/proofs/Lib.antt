@@ -1,3 +1,9 @@
+pub mod Lists
+pub mod Sorted
+pub mod Step
+pub mod Bridge
+pub mod Check17
+pub mod Accepted
 pub mod ChainLaws
 pub mod TreeLaws
 pub mod NextLaws

@@ -13,9 +13,7 @@ use Rattle.lxt_format.specs.Walk.{sort}
 use Rattle.lxt_tables.specs.Stage.{Geometry}
 use Rattle.lxt_tables.specs.Asked.{Sync}
 use Rattle.lxt_changes.specs.Faults.{LastZero}
-use Rattle.lxt_chains.specs.Pending.{pendingChanges}
-use Rattle.lxt_chains.specs.Lists.{Each}
-use Rattle.lxt_chains.specs.Accepted.{Allowed}
+use Rattle.lxt_chains.specs.Pending.{pendingChanges, Each, Allowed}
 use Rattle.lxt_chains.specs.declared.chains.Chains.{Chains}
 
 -- the places of a file that refusals 1 to 14 pass

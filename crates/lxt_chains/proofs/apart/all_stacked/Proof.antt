@@ -1,6 +1,5 @@
 -- Each change is taken from the tree and must end at or below the start of the one that was taken before it.
 use borrow.Author.Needs.{needs}
-use native.Mathlib.Omega.{arith}
 use lib.ListN.{length, drop}
 use borrow.Author.Tests.{not-true, not-false}
 use Rattle.lxt_format.specs.Walk.{sort}

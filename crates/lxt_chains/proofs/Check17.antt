@@ -12,15 +12,10 @@ use Rattle.lxt_format.specs.BasicsLaws.{on-test, and-both}
 use Rattle.lxt_format.specs.Judge.{apart, pairwise}
 use Rattle.lxt_format.specs.Walk.{insert, sort, top, high, step}
 use Rattle.lxt_format.specs.declared.Pair.{Pair}
-use Rattle.lxt_chains.specs.Lists.{Each, each-map, each-both, each-all, all-each, all-same}
-use Rattle.lxt_chains.specs.Sorted.{Below, Sorted, sort-sorted, each-sort}
-use Rattle.lxt_chains.specs.Pending.{pairOf, pendingChanges}
-use Rattle.lxt_chains.specs.Step.{sorted-step}
-
--- each change of a list ends at or below the start of the one before it, and the first at or below a bound
-unfoldable pub stacked : (Pair → ℕ) → ℕ → List Pair → Bool
-stacked end bound [] = true
-stacked end bound (p ∷ l) = leb (end p) bound && stacked end (p .offset) l
+use Rattle.lxt_chains.specs.Pending.{Each, pairOf, pendingChanges, stacked}
+use Rattle.lxt_chains.proofs.Lists.{each-map, each-both, each-all, all-each, all-same}
+use Rattle.lxt_chains.proofs.Sorted.{Below, Sorted, sort-sorted, each-sort}
+use Rattle.lxt_chains.proofs.Step.{sorted-step}
 
 -- a change ends above its start and at or below T
 pub record Fits (end : Pair → ℕ) (T : ℕ) (p : Pair) : Type 0 where
