@@ -1,111 +1,86 @@
-// Reads a trace of at most 65,536 bytes from standard input and prints its facilities, its changes in
-// walk order and how many they are; or the number of the file's refusal.
-ghost use mathlib.Core.Path.{_≡_};
-ghost use Prim.Native.Nat.{_+_, _*_, _≤_};
+// Reads a trace of at most 65,536 bytes from standard input and prints it, as lxt_print puts it into a buffer;
+// what was put is written at once. Where a read or a write fails nothing more is written but a message on
+// standard error.
+ghost use Prim.Native.Nat.{_<_};
 ghost use lib.ListN.{length};
-ghost use Rattle.lxt_format.specs.Judge.{allChanges};
-ghost use Rattle.lxt_chains.specs.Tree.{Blank};
-ghost use Rattle.lxt_print.specs.Placing.{Opened};
+ghost use Rattle.io.specs.Counts.{Counts};
+ghost use Rattle.lxt_print.specs.Calls.{Lent};
+use libc::STDERR_FILENO;
 use libc::STDIN_FILENO;
 use libc::STDOUT_FILENO;
-use lxt_chains::tree;
-use lxt_chains::whole;
-use lxt_print::changes;
-use lxt_print::lines;
-use lxt_tables::Tables;
-use lxt_values::names::NamesLeft;
+use lxt_format::File;
+use lxt_print::printing;
+use lxt_print::printing::Printing;
 
-// Writes the line at the start of the buffer.
-fn write_line(out: &[u8], size: usize)
-    requires { ⌜ size ≤ length (now out) ⌝ }
-{
-    io::write_all(STDOUT_FILENO, &out[..size]);
+// How many bytes were read, and whether a read failed after them.
+struct Input {
+    size: usize,
+    failed: bool,
 }
 
-fn print_refusal(k: u8, out: &mut [u8])
-    requires { ⌜ 32 ≤ length (now out) ⌝ }
+// Reads until the buffer is full, the input ends or a read fails.
+fn read_all(input: &mut [u8]) -> Input
+    ensures { λ r. ⌜ Counts (r .size) (now (input .exit)) ⌝ }
 {
-    let size = lines::refused(k, out);
-    write_line(out, size);
-}
-
-fn print_facilities(file: &[u8], t: Tables, name: &mut [u8], out: &mut [u8])
-    requires { ⌜ Opened (now file) t × ((1023 ≤ length (now name)) × (1100 ≤ length (now out))) ⌝ }
-{
-    let n = t.facilities;
-    let mut names = NamesLeft {
-        left: n,
-        at: t.names as usize + 8,
-        before: 0,
-    };
-    let mut f = 0;
-    while f < n {
-        let line = lines::next_facility(file, t, f, names, name, out);
-        names = line.names;
-        write_line(out, line.size);
-        f += 1;
-    }
-}
-
-// Prints all changes: how many they are.
-fn print_changes(file: &[u8], t: Tables, nodes: &mut [u32], m: usize, out: &mut [u8]) -> u32
-    requires { ⌜ Opened (now file) t × ((t .facilities ≤ m) × (Blank m (now nodes) × (2 * length (now file) + 4200 ≤ length (now out)))) ⌝ }
-    ensures { λ r. ⌜ r ≡ length (allChanges (now (file .entry))) ⌝ }
-{
-    changes::start(file, t, nodes, m);
-    let mut entry = changes::last_entry(file, t);
-    let mut count = 0;
-    loop {
-        let line = changes::next(file, t, entry, nodes, m, out);
-        entry = line.entry;
-        let size = line.size;
-        if size == 0 {
-            return count;
+    let mut size = 0;
+    while size < input.len() {
+        let part = &mut input[size..];
+        let got = libc::read(STDIN_FILENO, part);
+        let more = io::count(got, part);
+        if more == 0 {
+            return Input {
+                size: size,
+                failed: got < 0,
+            };
         }
-        write_line(out, size);
-        count += 1;
+        size += more;
+    }
+    Input {
+        size: size,
+        failed: false,
     }
 }
 
-// The same, with room for a tree with a leaf for each facility.
-fn walk(file: &[u8], t: Tables, out: &mut [u8]) -> u32
-    requires { ⌜ Opened (now file) t × (2 * length (now file) + 4200 ≤ length (now out)) ⌝ }
-    ensures { λ r. ⌜ r ≡ length (allChanges (now (file .entry))) ⌝ }
-{
-    let mut nodes = [0u32; 8192];
-    let n = t.facilities as usize;
-    let m = tree::leaves_for(n);
-    print_changes(file, t, &mut nodes[..2 * m], m, out)
-}
-
-fn print_accepted(file: &[u8], t: Tables, out: &mut [u8])
-    requires { ⌜ Opened (now file) t × (2 * length (now file) + 4200 ≤ length (now out)) ⌝ }
-{
-    let mut name = [0u8; 1023];
-    print_facilities(file, t, &mut name, out);
-    let count = walk(file, t, out);
-    let size = lines::done(count, out);
-    write_line(out, size);
-}
-
-fn print_trace(file: &[u8], out: &mut [u8])
-    requires { ⌜ 2 * length (now file) + 4200 ≤ length (now out) ⌝ }
-{
-    let x = whole::judged(file);
-    if x.refusal != 0 {
-        print_refusal(x.refusal, out);
-        return;
+// Writes all bytes to standard output, or says that a write failed.
+fn write(bytes: &[u8]) -> bool {
+    if io::write_all(STDOUT_FILENO, bytes) {
+        return true;
     }
-    print_accepted(file, x.tables, out);
+    io::write_all(STDERR_FILENO, b"lxt_dump: a write failed\n");
+    false
+}
+
+// Fills the buffer and writes what was filled, up to the last byte or to a write that fails.
+fn print(file: &[u8], name: &mut [u8], nodes: &mut [u32], line: &mut [u8], out: &mut [u8])
+    requires { ⌜ Lent (now name) (now nodes) (now line) × (0 < length (now out)) ⌝ }
+{
+    let mut left = printing::begin(file, name, nodes, line);
+    loop {
+        let filled = printing::fill(file, left, name, nodes, line, out);
+        let size = filled.size;
+        let written = write(&out[..size]);
+        if !written | filled.done {
+            return;
+        }
+        left = filled.left;
+    }
+}
+
+fn print_trace(file: &[u8]) {
+    let mut name = [0u8; Printing::NAME];
+    let mut nodes = [0u32; Printing::NODES];
+    let mut line = [0u8; Printing::LINE];
+    let mut out = [0u8; File::LONGEST_PRINTED];
+    print(file, &mut name, &mut nodes, &mut line, &mut out);
 }
 
 fn main() {
-    let mut input = [0u8; 65537];
-    let mut out = [0u8; 135272];
-    let n = io::read_full(STDIN_FILENO, &mut input);
-    if 65536 < n {
-        print_refusal(1, &mut out);
+    let mut input = [0u8; File::LONGEST_PRINTED + 1];
+    let read = read_all(&mut input);
+    if read.failed {
+        io::write_all(STDERR_FILENO, b"lxt_dump: a read failed\n");
         return;
     }
-    print_trace(&input[..n], &mut out);
+    let n = read.size;
+    print_trace(&input[..n]);
 }

@@ -7,6 +7,10 @@ shortestFile = 6
 abbrev pub longestFile : ℕ
 longestFile = 16777216
 
+-- "a trace of at most 65,536 bytes": of the small program
+abbrev pub longestPrinted : ℕ
+longestPrinted = 65536
+
 abbrev pub mostFacilities : ℕ
 mostFacilities = 4096
 

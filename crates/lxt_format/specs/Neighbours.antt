@@ -17,7 +17,7 @@ use Rattle.lxt_format.specs.Walk.{fullList}
 use Rattle.lxt_format.specs.Answers.{bitsOf, realOf, textOf, nothing}
 use Rattle.lxt_format.specs.Questions.{factsAsked, rootAsked, nameAsked, namePart, nameBuffer, beforeAsked, changeAsked, changeBuffer, valueAsked, valueBuffer, startAsked, startRecord, carryAsked, carryRecord, carryOutput}
 use Rattle.lxt_format.specs.Everything.{everything}
-use Rattle.lxt_format.specs.Traces.{spelled, with16, with32, trace, version, oldestDelta, newestCommand, newestDelta, nameMemory, namePrefix, nameZero, rows, msb, lsb, flags, syncEntry, entries, firstOfTimes, lastOfTimes, positionDelta0, positionDelta1, timeDelta0, timeDelta1, changesValue, syncValue, namesValue, geometryValue, timesValue, lastByte, facilitiesNamed, mixed, command5, delta5, data5, command8, delta8, command14, command24, data29, command37, entriesOfMixed, syncOfMixed, rowsOfMixed, flagsOfMixed, timescaleByte, initialByte, realTest, testValue}
+use Rattle.lxt_format.specs.Traces.{spelled, with16, with32, trace, version, oldestDelta, newestCommand, newestDelta, nameMemory, namePrefix, nameZero, rows, msb, lsb, flags, syncEntry, entries, firstOfTimes, lastOfTimes, positionDelta0, positionDelta1, timeDelta0, timeDelta1, changesValue, syncValue, namesValue, geometryValue, timesValue, lastByte, facilitiesNamed, crowded, mixed, command5, delta5, data5, command8, delta8, command14, command24, data29, command37, entriesOfMixed, syncOfMixed, rowsOfMixed, msbOfMixed, lsbOfMixed, flagsOfMixed, timescaleByte, initialByte, realTest, testValue}
 use Rattle.lxt_format.specs.Examples.{Row, row, Holds, pair}
 use Rattle.lxt_format.specs.declared.Summary.{Summary}
 use Rattle.lxt_format.specs.declared.Pair.{Pair}
@@ -247,6 +247,15 @@ unfolding everything trace mixed spelled endItem nearerEnd testPastEnd quiet two
 neighbours-hold =
     (refl, (refl, (refl, (refl, (refl, (refl, (refl, (refl, (refl, (refl, (refl, (refl, (refl, (refl, (refl, (refl, (refl, (refl, (refl, (refl, (refl, (refl, (refl, (refl, (refl, (refl, (refl, (refl, (refl, (refl, (refl, (refl, (refl, (refl, (refl, (refl, (refl, (refl, (refl, (refl, (refl, (refl, (refl, (refl, (refl, (refl, (refl, (refl, (refl, (refl, (refl, (refl, (refl, (refl, (refl, (refl, (refl, (refl, (refl, (refl, (refl, (refl, (refl, (refl, (refl, (refl, (refl, (refl, (refl, (refl, (refl, (refl, (refl, (refl, (refl, (refl, (refl, (refl, (refl, (refl, (refl, (refl, (refl, (refl, (refl, (refl, (refl, (refl, (refl, (refl, (refl, (refl, (refl, (refl, (refl, (refl, (refl, (refl, (refl, (refl, (refl, (refl, (refl, (refl, (refl, (refl, (refl, (refl, (refl, (refl, (refl, (refl, (refl, (refl, (refl, (refl, (refl, (refl, (refl, (refl, (refl, (refl, (refl, (refl, (refl, (refl, (refl, (refl, (refl, (refl, (refl, (refl, (refl, (refl, (refl, (refl, (refl, (refl, (refl, (refl, (refl, (refl, (refl, (refl, (refl, (refl, (refl, (refl, (refl, (refl, (refl, (refl, (refl, (refl, (refl, (refl, (refl, (refl, (refl, (refl, (refl, (refl, (refl, (refl, (refl, (refl, (refl, (refl, (refl, tt)))))))))))))))))))))))))))))))))))))))))))))))))))))))))))))))))))))))))))))))))))))))))))))))))))))))))))))))))))))))))))))))))))))))))))))))))))))))))))))))))))))))))
 
+-- refusal 9 of a whole file, which is long: a table of its own
+pub large : List Row
+large = row 9 (fileRefusal (crowded 4097)) 9 ∷ []
+
+pub large-holds : Holds large
+unfolding everything spelled large
+large-holds = (refl, tt)
+
+-- the answers of the trace `mixed`
 pub answers : List Row
 answers =
     row 1 (judge mixed) (judged (negsuc 11) 1)
@@ -256,12 +265,15 @@ answers =
     ∷ row 1 (judge (set mixed timescaleByte 0x03)) (judged (negsuc 8) 1)
     ∷ row 1 (judge (set mixed initialByte 8)) (judged (negsuc 11) 8)
     ∷ row 1 (judge (set mixed initialByte 9)) (judged (negsuc 11) 3)
+    ∷ row 1 (judge (endItem 0x0000000B05)) (given (record { facilities = 1; changes = 4; end = 68; timescale = pos 1; initial = 3 }))
+    ∷ row 1 (judge (endItem 0x0000000B07)) (given (record { facilities = 1; changes = 4; end = 68; timescale = negsuc 8; initial = 1 }))
     ∷ row 2 (map (nameOf mixed) (range 0 6)) (spelled 3 0x636C6B ∷ spelled 5 0x636F756E74 ∷ spelled 4 0x766F6C74 ∷ spelled 3 0x6D7367 ∷ spelled 4 0x636C6B32 ∷ spelled 4 0x636C6B33 ∷ [])
     ∷ row 3 (map (rootAsked mixed) (range 0 6)) (map given (0 ∷ 1 ∷ 2 ∷ 3 ∷ 0 ∷ 0 ∷ []))
     ∷ row 4 (factsAsked mixed 4) (given (record { width = 3; msb = pos 2; lsb = pos 0; kind = Bits }))
     ∷ row 4 (factsAsked mixed 1) (given (record { width = 32; msb = pos 31; lsb = pos 0; kind = Integer }))
     ∷ row 4 (factsAsked mixed 2) (given (record { width = 0; msb = pos 0; lsb = pos 0; kind = Real }))
     ∷ row 4 (factsAsked mixed 3) (given (record { width = 0; msb = pos 0; lsb = pos 0; kind = Text }))
+    ∷ row 4 (factsAsked (with32 (with32 (with32 mixed (flagsOfMixed 1) 0) (msbOfMixed 1) 9) (lsbOfMixed 1) 2) 1) (given (record { width = 8; msb = pos 9; lsb = pos 2; kind = Bits }))
     ∷ row 4 (factsAsked (with32 trace lsb 0xFFFFFFFF) 0) (given (record { width = 2; msb = pos 0; lsb = negsuc 0; kind = Bits }))
     ∷ row 4 (factsAsked (with32 (with32 trace msb 0x7FFFFFFF) lsb 0x7FFFFFFE) 0) (given (record { width = 2; msb = pos 2147483647; lsb = pos 2147483646; kind = Bits }))
     ∷ row 4 (factsAsked (with32 (with32 trace msb 0x80000000) lsb 0x80000000) 0) (given (record { width = 1; msb = negsuc 2147483647; lsb = negsuc 2147483647; kind = Bits }))
@@ -275,6 +287,7 @@ answers =
     ∷ row 7 (changeAsked mixed 3 34 0) (20, given (textOf 36 0))
     ∷ row 8 (valueAsked mixed 3 9 0) (given nothing)
     ∷ row 8 (valueAsked mixed 2 9 0) (given nothing)
+    ∷ row 8 (valueAsked mixed 4 20 3) (given (bitsOf 3))
     ∷ row 8 (valueBuffer mixed 1 9 (replicate 33 0xFF)) (replicate 32 0x31 ++ (0xFF ∷ []))
     ∷ row 8 (valueBuffer (set mixed initialByte 2) 1 9 (replicate 33 0xFF)) (replicate 32 0x5A ++ (0xFF ∷ []))
     ∷ row 8 (valueBuffer mixed 0 9 (replicate 4 0xFF)) (spelled 4 0x313131FF)
@@ -299,6 +312,6 @@ answers =
     ∷ []
 
 pub answers-hold : Holds answers
-unfolding everything trace mixed spelled twoTexts answers
+unfolding everything trace mixed spelled endItem twoTexts answers
 answers-hold =
-    (refl, (refl, (refl, (refl, (refl, (refl, (refl, (refl, (refl, (refl, (refl, (refl, (refl, (refl, (refl, (refl, (refl, (refl, (refl, (refl, (refl, (refl, (refl, (refl, (refl, (refl, (refl, (refl, (refl, (refl, (refl, (refl, (refl, (refl, (refl, (refl, (refl, (refl, (refl, (refl, (refl, (refl, (refl, (refl, (refl, (refl, (refl, tt)))))))))))))))))))))))))))))))))))))))))))))))
+    (refl, (refl, (refl, (refl, (refl, (refl, (refl, (refl, (refl, (refl, (refl, (refl, (refl, (refl, (refl, (refl, (refl, (refl, (refl, (refl, (refl, (refl, (refl, (refl, (refl, (refl, (refl, (refl, (refl, (refl, (refl, (refl, (refl, (refl, (refl, (refl, (refl, (refl, (refl, (refl, (refl, (refl, (refl, (refl, (refl, (refl, (refl, (refl, (refl, (refl, (refl, tt)))))))))))))))))))))))))))))))))))))))))))))))))))

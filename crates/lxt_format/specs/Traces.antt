@@ -141,6 +141,24 @@ facilitiesNamed n M names =
     ++ spelled 5 0x0000000406
     ++ spelled 1 0xB4
 
+-- ---- n facilities whose tables all lie from 4 on, but for the times; the prefix of the first name is too long
+
+abbrev pub crowded : ℕ → List ℕ
+crowded n =
+    spelled 4 0x01380004
+    ++ spelled 4 n
+    ++ spelled 4 0
+    ++ spelled 2 1
+    ++ replicate (16 * n) 0
+    -- END
+    ++ spelled 1 0x00
+    ++ spelled 5 0x0000000401
+    ++ spelled 5 0x0000000402
+    ++ spelled 5 0x0000000403
+    ++ spelled 5 0x0000000404
+    ++ spelled 5 0x0000000E06
+    ++ spelled 1 0xB4
+
 -- ---- a trace with more
 
 -- A trace with every kind, an alias of an alias, a reordered real, C above 4, sections in another order, tags that are skipped and a tag that is met
@@ -253,12 +271,18 @@ data29 = 33
 abbrev pub entriesOfMixed : ℕ
 entriesOfMixed = 39
 
--- of facility f the sync entry, the rows and the flags,
+-- of facility f the sync entry and the geometry,
 abbrev pub syncOfMixed : ℕ → ℕ
 syncOfMixed f = 67 + 4 * f
 
 abbrev pub rowsOfMixed : ℕ → ℕ
 rowsOfMixed f = 91 + 16 * f
+
+abbrev pub msbOfMixed : ℕ → ℕ
+msbOfMixed f = 91 + 16 * f + 4
+
+abbrev pub lsbOfMixed : ℕ → ℕ
+lsbOfMixed f = 91 + 16 * f + 8
 
 abbrev pub flagsOfMixed : ℕ → ℕ
 flagsOfMixed f = 91 + 16 * f + 12

@@ -16,6 +16,9 @@ impl File {
 
     pub const LONGEST: usize = 16_777_216;
 
+    // The longest file that the small program prints.
+    pub const LONGEST_PRINTED: usize = 65_536;
+
     // Check 1.
     pub fn length_is_allowed(self) -> bool
         ensures { λ r. ⌜ r ≡ (leb shortestFile (self .length) && leb (self .length) longestFile) ⌝ }

@@ -1,10 +1,10 @@
 -- Laws of lines: texts put one after the other, and what each line asks of an accepted file.
-use Prim.Native.Nat.{ℕ, zero, suc, _+_, _*_, _-_, _≤_, _<_}
+use Prim.Native.Nat.{ℕ, _≤_, _<_}
 use native.Mathlib.Omega.{arith}
 use mathlib.Core.Path.{_≡_, refl, sym, ap, _∙_}
 use mathlib.Core.Bool.{Bool, true, false}
 use mathlib.Core.List.{List, [], _∷_, _++_, append-assoc}
-use lib.ListN.{length, take, drop, length-append}
+use lib.ListN.{length, length-append}
 use Rattle.lxt_format.specs.Basics.{if_then_else_}
 use Rattle.lxt_format.specs.Changes.{digits}
 use Rattle.lxt_format.specs.Columns.{onto}
@@ -19,7 +19,7 @@ use Rattle.lxt_tables.specs.Stage.{Geometry}
 use Rattle.lxt_tables.specs.declared.Tables.{Tables}
 use Rattle.lxt_tables.proofs.TablesLaws.{Known, entry-allowed}
 use Rattle.lxt_reader.proofs.AskWays.{tables-known}
-use Rattle.lxt_print.specs.Lines.{decimal, space, newline, facilityWord, changeWord, doneWord, refusedWord, aliasWord, kindWord, facilityLine, doneLine, refusedLine}
+use Rattle.lxt_print.specs.Lines.{decimal, space, newline, facilityWord, doneWord, refusedWord, aliasWord, kindWord, facilityLine, doneLine, refusedLine}
 use Rattle.lxt_print.specs.Placing.{placed, Opened, Put, facilityHead, facilityEnd}
 use Rattle.lxt_print.proofs.TextLaws.{length-placed, placed-more, placed-start}
 

@@ -2,15 +2,15 @@
 use Prim.Native.Nat.{ℕ, suc, _+_, _≤_, _<_}
 use native.Mathlib.Omega.{arith}
 use native.Mathlib.Nat.{zero-add}
-use mathlib.Core.Path.{_≡_, refl, sym, ap, _∙_}
-use mathlib.Core.List.{List, []}
+use mathlib.Core.Path.{_≡_, sym, _∙_}
+use mathlib.Core.List.{List}
 use lib.ListN.{length, take}
-use lib.Seq.{slice, length-take-le}
+use lib.Seq.{length-take-le}
 use Rattle.lxt_format.specs.Bytes.{u32At}
 use Rattle.lxt_format.specs.Sections.{sectionOf}
-use Rattle.lxt_format.specs.Names.{nameAmong, namesAllowed, nameTable, nameOf}
+use Rattle.lxt_format.specs.Names.{namesAllowed, nameTable, nameOf}
 use Rattle.lxt_tables.specs.declared.Tables.{Tables}
-use Rattle.lxt_values.specs.Names.{coming, Coming, Read}
+use Rattle.lxt_values.specs.Names.{Coming, Read}
 use Rattle.lxt_values.specs.declared.names.NamesLeft.{NamesLeft}
 use Rattle.lxt_values.proofs.NameLaws.{table-coming}
 use Rattle.lxt_print.specs.Placing.{Opened, NamesAt}

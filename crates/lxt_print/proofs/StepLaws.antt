@@ -1,14 +1,14 @@
 -- Laws of the changes one after the other.
-use Prim.Native.Nat.{ℕ, zero, suc, _+_, _*_, _≤_, _<_}
+use Prim.Native.Nat.{ℕ, _+_, _≤_, _<_}
 use native.Mathlib.Omega.{arith}
 use native.Mathlib.Decide.{decLe, ℕ-discrete}
 use mathlib.Core.Path.{_≡_, refl, sym, ap, _∙_}
-use mathlib.Core.Bool.{Bool, true, false, not}
-use mathlib.Core.List.{List, [], _∷_, _++_}
+use mathlib.Core.Bool.{true, false, not}
+use mathlib.Core.List.{List, [], _∷_, _++_, append-nil}
 use lib.ListN.{length, getD, set, drop, length-append}
 use lib.Seq.{getD-set-same, getD-set-other}
 use lib.Dec.{leb, eqb}
-use borrow.Author.Tests.{leb-true, eqb-true, eq-eqb, not-true, not-false}
+use borrow.Author.Tests.{leb-true, eqb-true, eq-eqb, ne-eqb, not-true, not-false}
 use Rattle.lxt_format.specs.Basics.{if_then_else_, any, joined}
 use Rattle.lxt_format.specs.BasicsLaws.{and-both, or-none, on-zero}
 use Rattle.lxt_format.specs.BytesLaws.{AreBytes}
@@ -16,17 +16,18 @@ use Rattle.lxt_format.specs.Columns.{onto}
 use Rattle.lxt_format.specs.Sections.{timeCount, endOf}
 use Rattle.lxt_format.specs.Geometry.{rootsOf, syncOf}
 use Rattle.lxt_format.specs.Times.{tableAllowed, timesAllowed, timeOf}
-use Rattle.lxt_format.specs.Changes.{dataAt, previousOf, chainOf}
+use Rattle.lxt_format.specs.Changes.{dataAt, previousOf}
 use Rattle.lxt_format.specs.ChangesLaws.{previous-lt, chain-none}
 use Rattle.lxt_format.specs.Judge.{changesOf, allChanges, endAt}
 use Rattle.lxt_format.specs.JudgeLaws.{accepted}
-use Rattle.lxt_format.specs.Walk.{sort, top, high, step, offsetsAfter}
+use Rattle.lxt_format.specs.Values.{contentOf}
+use Rattle.lxt_format.specs.Walk.{sort, top, high, step, handedOut, offsetsAfter}
 use Rattle.lxt_tables.specs.declared.Tables.{Tables}
 use Rattle.lxt_tables.specs.Stage.{tablesOf}
-use Rattle.lxt_tables.proofs.TablesLaws.{Known, refusal-is}
+use Rattle.lxt_tables.proofs.TablesLaws.{refusal-is}
 use Rattle.lxt_chains.specs.declared.chains.Chains.{Chains}
 use Rattle.lxt_chains.specs.Pending.{pairOf, pendingChanges, rootOffsets}
-use Rattle.lxt_chains.specs.Reading.{Ready, Pending}
+use Rattle.lxt_chains.specs.Reading.{Ready}
 use Rattle.lxt_chains.specs.Tree.{Tree, Blank, Holding}
 use Rattle.lxt_chains.specs.Accepted.{Allowed, all-allowed, allowed-fits, apart-stacked}
 use Rattle.lxt_chains.specs.Bridge.{all-roots}
@@ -40,11 +41,46 @@ use Rattle.lxt_values.specs.Times as Ti
 use Rattle.lxt_values.specs.Entries.{EntryAt, Latest}
 use Rattle.lxt_values.specs.declared.entries.Entry.{Entry}
 use Rattle.lxt_values.proofs.TimeLaws.{time-fits}
-use Rattle.lxt_print.specs.Lines.{changeLine}
+use Rattle.lxt_print.specs.Lines.{decimal, space, newline, changeWord, valueText, changeLine}
 use Rattle.lxt_print.specs.Placing.{Opened}
-use Rattle.lxt_print.specs.Stepping.{left, allLeft, Waiting, Last, Timed, nextLine, quiet-line, quiet-after, next-line, next-after}
+use Rattle.lxt_print.specs.Stepping.{left, allLeft, Waiting, Last, Timed, nextLine}
 use Rattle.lxt_print.proofs.LineLaws.{opened-known}
 use Rattle.lxt_print.proofs.ValueLaws.{times-there}
+
+-- ---- the next line
+
+module _ (s os : List ℕ) where
+  -- nothing is left
+  pub quiet-line : high os ≡ 0 → nextLine s os ≡ []
+  unfolding nextLine joined handedOut
+  quiet-line h = rw (eq-eqb (high os) 0 h)
+
+  pub quiet-after : high os ≡ 0 → offsetsAfter s 1 os ≡ os
+  unfolding offsetsAfter
+  quiet-after h = rw (eq-eqb (high os) 0 h)
+
+  -- else the highest change
+  pub next-line : 0 < high os → nextLine s os ≡ changeLine s (pairOf (top os) (high os))
+  unfolding nextLine joined handedOut
+  next-line h = let n : high os ≡ 0 → ⊥ = λ e. omega arith in rw (ne-eqb (high os) 0 n) (append-nil (changeLine s (pairOf (top os) (high os))))
+
+  pub next-after : 0 < high os → offsetsAfter s 1 os ≡ step s os
+  unfolding offsetsAfter
+  next-after h = let n : high os ≡ 0 → ⊥ = λ e. omega arith in rw (ne-eqb (high os) 0 n)
+
+-- a line is not empty
+pub line-some : (s : List ℕ) (p : Pair) → 0 < length (changeLine s p)
+unfolding changeLine
+line-some s p =
+    let l : List ℕ = changeWord ++ space ++ decimal (p .number) ++ space ++ decimal (p .offset) ++ space ++ decimal (timeOf s (p .offset)) ++ space in
+    let e = length-append (l ++ valueText s (contentOf s (p .number) (p .offset))) newline in
+    omega arith
+
+-- so an answer of 0 says that nothing is left
+pub zero-quiet : (s os : List ℕ) → length (nextLine s os) ≡ 0 → high os ≡ 0
+zero-quiet s os e =
+    on-zero (high os) (λ z. z)
+    (λ h. let a = line-some s (pairOf (top os) (high os)) in let b : length (changeLine s (pairOf (top os) (high os))) ≡ 0 = rw (next-line s os h) at e in absurd (omega arith))
 
 -- ---- all changes are left
 

@@ -2,13 +2,12 @@
 use Prim.Native.Nat.{ℕ, zero, suc, _+_, _*_, _-_, _/_, _%_, _≤_, _<_}
 use native.Mathlib.Nat.{add-zero, zero-add}
 use native.Mathlib.Omega.{arith}
-use native.Mathlib.Decide.{decLe, ℕ-discrete}
+use native.Mathlib.Decide.{decLe}
 use mathlib.Core.Path.{_≡_, refl, sym, ap, _∙_}
-use mathlib.Core.Bool.{Bool, true, false}
-use mathlib.Core.List.{List, [], _∷_, _++_, append-assoc, append-nil}
-use lib.ListN.{length, getD, set, take, drop, length-append, length-take, length-drop, length-set, take-append-drop}
+use mathlib.Core.List.{List, [], _∷_, _++_, append-assoc}
+use lib.ListN.{length, getD, set, take, drop, length-append, length-drop, length-set, take-append-drop}
 use lib.Seq.{length-take-le, take-all, take-suc, take-at, drop-at, set-at, drop-cons, drop-drop, append-snoc, take-set-le, drop-set-lt}
-use lib.Dec.{ltb, eqb}
+use lib.Dec.{eqb}
 use borrow.Author.Tests.{lt-ltb, le-ltb, eq-eqb, ne-eqb}
 use Rattle.lxt_format.specs.Basics.{if_then_else_, joined}
 use Rattle.lxt_format.specs.Changes.{digits}
@@ -250,28 +249,6 @@ module _ (b : List ℕ) (at n : ℕ) (b′ : List ℕ) (i rest : ℕ) (w : Stori
       let z : i - at ≡ 0 = omega arith in
       let s : placed b′ at [] ≡ placed b at (decimal n) = rw z at (w .same) in
       record { place = omega arith; holds = sym (placed-none b′ at) ∙ s; fits = fits }
-
--- a number below 2 to the 32 has one to ten digits
-counted-most : (j m : ℕ) → counted j m ≤ j
-unfolding counted decimalWithin
-counted-most j m = elim (ℕ-discrete m 0) [
-  | yes e ↦ (rw (eq-eqb m 0 e) (omega arith))
-  | no e ↦ (rw (ne-eqb m 0 e) (within-most j m))
-]
-  where
-    within-most : (j m : ℕ) → length (decimalWithin j m) ≤ j
-    within-most zero m = omega arith
-    within-most (suc j) m =
-        let ih = within-most j (m / 10) in
-        let x : List ℕ = (48 + m % 10) ∷ [] in
-        elim (decLe 10 m) [
-          | yes h ↦ (rw (le-ltb m 10 h) (let e = length-append (decimalWithin j (m / 10)) x in omega arith))
-          | no h ↦ (rw (lt-ltb m 10 (omega arith)) (omega arith))
-        ]
-
-pub decimal-most : (n : ℕ) → length (decimal n) ≤ 10
-unfolding decimal
-decimal-most n = let e = more-digits 9 n in let h = counted-most 9 (n / 10) in omega arith
 
 -- ---- hexadecimal digits
 

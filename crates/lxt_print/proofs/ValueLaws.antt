@@ -3,18 +3,18 @@ use Prim.Native.Nat.{ℕ, zero, suc, _+_, _*_, _-_, _≤_, _<_}
 use native.Mathlib.Nat.{add-zero}
 use native.Mathlib.Omega.{arith}
 use mathlib.Core.Path.{_≡_, refl, sym, ap, _∙_}
-use mathlib.Core.Bool.{Bool, true, false, true≢false}
+use mathlib.Core.Bool.{true, false}
 use mathlib.Core.List.{List, [], _∷_, _++_, append-assoc, append-nil}
-use lib.ListN.{length, take, drop, length-append, length-drop, take-append-drop}
+use lib.ListN.{length, take, drop, length-drop}
 use lib.Seq.{take-length, drop-length, drop-drop, slice}
 use lib.Ieee.{Float}
 use Rattle.lxt_format.specs.Basics.{Answer, given, refused}
-use Rattle.lxt_format.specs.Sections.{facilityCount, changesFrom, endOf}
+use Rattle.lxt_format.specs.Sections.{facilityCount, endOf}
 use Rattle.lxt_format.specs.Bytes.{toZero}
 use Rattle.lxt_format.specs.Geometry.{isAlias, ownFacts, geometryAllowed}
 use Rattle.lxt_format.specs.Times.{timeOf}
 use Rattle.lxt_format.specs.Changes.{digits, dataAt, dataSize, changeEnd}
-use Rattle.lxt_format.specs.Values.{Content, bits, real, text, notDriven, symbolsAt, contentBy, contentOf}
+use Rattle.lxt_format.specs.Values.{Content, bits, real, text, notDriven, contentBy, contentOf}
 use Rattle.lxt_format.specs.Answers.{Shown, bitsOf, realOf, textOf, nothing, shown, valueSays}
 use Rattle.lxt_format.specs.Questions.{written, holdingBits}
 use Rattle.lxt_format.specs.declared.Value.{Value}
@@ -24,14 +24,14 @@ use Rattle.lxt_format.specs.declared.Kind.the-variants.{Bits, Integer, Real, Te
 use Rattle.lxt_format.specs.declared.Facts.{Facts}
 use Rattle.lxt_tables.specs.Stage.{Geometry}
 use Rattle.lxt_tables.specs.declared.Tables.{Tables}
-use Rattle.lxt_tables.proofs.TablesLaws.{Known, entry-allowed, width-most}
+use Rattle.lxt_tables.proofs.TablesLaws.{width-most}
 use Rattle.lxt_values.specs.Times as Ti
 use Rattle.lxt_chains.specs.Pending.{pairOf}
 use Rattle.lxt_chains.specs.Accepted.{Allowed, allowed-sound}
 use Rattle.lxt_values.specs.Value.{Readies}
 use Rattle.lxt_values.proofs.ReadLaws.{symbols-long, bits-drawn, integer-drawn}
 use Rattle.lxt_reader.proofs.ValueWays.{order-is, order-there}
-use Rattle.lxt_print.specs.Lines.{decimal, space, newline, changeWord, hexBytes, valueText, changeLine}
+use Rattle.lxt_print.specs.Lines.{decimal, space, changeWord, hexBytes, valueText, changeLine}
 use Rattle.lxt_print.specs.Placing.{placed, Opened, Put, changeHead}
 use Rattle.lxt_print.proofs.TextLaws.{placed-none}
 use Rattle.lxt_print.proofs.LineLaws.{opened-known, own-asks}

@@ -1,18 +1,18 @@
 -- Paper 01, "A small program": the lines that it prints, as ASCII bytes. "Fields are joined by one space", and each line ends in one line feed.
 use Prim.Native.Nat.{ℕ, zero, suc, _+_, _/_, _%_}
-use mathlib.Core.Bool.{Bool, true, false}
 use mathlib.Core.List.{List, [], _∷_, _++_}
 use lib.ListN.{length, take, drop}
 use lib.Dec.{leb, ltb, eqb}
-use Rattle.lxt_format.specs.Basics.{if_then_else_, range, joined, Answer, given, refused}
+use Rattle.lxt_format.specs.Limits.{longestPrinted}
+use Rattle.lxt_format.specs.Basics.{if_then_else_, _unless_, _orElse_, range, joined}
 use Rattle.lxt_format.specs.Sections.{facilityCount}
 use Rattle.lxt_format.specs.Names.{nameOf}
 use Rattle.lxt_format.specs.Geometry.{isAlias, rootOf, ownFacts}
 use Rattle.lxt_format.specs.Times.{timeOf}
 use Rattle.lxt_format.specs.Changes.{digits}
 use Rattle.lxt_format.specs.Values.{Content, bits, real, text, notDriven, contentOf}
-use Rattle.lxt_format.specs.Judge.{fileRefusal, allChanges}
-use Rattle.lxt_format.specs.Walk.{sort}
+use Rattle.lxt_format.specs.Judge.{fileRefusal}
+use Rattle.lxt_format.specs.Walk.{fullList, allAsked}
 use Rattle.lxt_format.specs.declared.Kind.{Kind}
 use Rattle.lxt_format.specs.declared.Kind.the-variants.{Bits, Integer, Real, Text}
 use Rattle.lxt_format.specs.declared.Pair.{Pair}
@@ -107,15 +107,16 @@ refusedLine k = refusedWord ++ space ++ decimal k ++ newline
 
 -- ---- the whole
 
--- "prints facilities, then changes in walk order with all asked for"
+-- "prints facilities, then changes in walk order with all asked for"; "done" counts them
 unfoldable pub acceptedText : List ℕ → List ℕ
 acceptedText s =
     joined (facilityLine s) (range 0 (facilityCount s))
-    ++ joined (changeLine s) (sort (allChanges s))
-    ++ doneLine (length (allChanges s))
+    ++ joined (changeLine s) (fullList s (allAsked s))
+    ++ doneLine (length (fullList s (allAsked s)))
 
 -- "a trace of at most 65,536 bytes"; "longer input is 1"
+unfoldable pub printRefusal : List ℕ → ℕ
+printRefusal s = 1 unless leb (length s) longestPrinted orElse fileRefusal s
+
 unfoldable pub printed : List ℕ → List ℕ
-printed s =
-    if leb (length s) 65536 then (if eqb (fileRefusal s) 0 then acceptedText s else refusedLine (fileRefusal s))
-    else refusedLine 1
+printed s = if eqb (printRefusal s) 0 then acceptedText s else refusedLine (printRefusal s)

@@ -1,7 +1,7 @@
 -- Text that is put into a buffer, and what putting a line asks.
-use Prim.Native.Nat.{ℕ, _+_, _*_, _≤_, _<_}
+use Prim.Native.Nat.{ℕ, _+_, _≤_}
 use mathlib.Core.Path.{_≡_}
-use mathlib.Core.List.{List, [], _∷_, _++_}
+use mathlib.Core.List.{List, _++_}
 use lib.ListN.{length, take, drop}
 use Rattle.lxt_format.specs.Basics.{if_then_else_}
 use Rattle.lxt_format.specs.Geometry.{isAlias, rootOf, ownFacts}
