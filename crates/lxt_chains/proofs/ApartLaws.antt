@@ -1,48 +1,31 @@
 -- Check 17: the changes of all roots by falling offset.
-use Prim.Native.Nat.{ℕ, suc, _≤_, _<_}
-use mathlib.Core.Path.{_≡_, refl, sym, _∙_}
+use Prim.Native.Nat.{ℕ, _≤_, _<_}
+use mathlib.Core.Path.{_≡_, sym, ap, _∙_}
 use mathlib.Core.Bool.{Bool, true, false, _&&_}
-use mathlib.Core.List.{List, [], _∷_}
-use lib.ListN.{length, getD, set, drop, List·getD-eq-default}
-use lib.Seq.{getD-set-other}
+use mathlib.Core.List.{List}
+use lib.ListN.{length, drop, List·getD-eq-default}
 use lib.Dec.{leb}
 use native.Mathlib.Omega.{arith}
-use native.Mathlib.Decide.{decLe}
-use Rattle.lxt_format.specs.Limits.{longestFile}
 use Rattle.lxt_format.specs.Sections.{endOf}
 use Rattle.lxt_format.specs.Geometry.{isAlias, syncOf}
-use Rattle.lxt_format.specs.Changes.{dataAt, previousOf, changeEnd}
-use Rattle.lxt_format.specs.ChangesLaws.{previous-lt, Sound}
-use Rattle.lxt_format.specs.Judge.{signalOf, endAt, changesApart, chainsRefusal}
-use Rattle.lxt_format.specs.Walk.{sort, top, high, step}
-use Rattle.lxt_chains.specs.Pending.{pairOf, pendingChanges, rootOffsets}
-use Rattle.lxt_chains.specs.Sorted.{each-sort}
-use Rattle.lxt_chains.specs.Step.{changes-none, length-left}
-use Rattle.lxt_chains.specs.Bridge.{all-roots, length-roots, getD-roots}
-use Rattle.lxt_chains.specs.Check17.{stacked, stacked-quiet, stacked-step, each-step}
-use Rattle.lxt_chains.specs.Accepted.{Allowed, all-allowed, allowed-sound, apart-stacked}
-use Rattle.lxt_chains.specs.Reading.{Ready, Stepping, Pending, rootOffset}
+use Rattle.lxt_format.specs.Judge.{endAt, changesApart, chainsRefusal}
+use Rattle.lxt_format.specs.Walk.{sort, top, high, offsetsAfter}
+use Rattle.lxt_chains.specs.Pending.{pairOf, pendingChanges, rootOffsets, stacked}
+use Rattle.lxt_chains.proofs.Sorted.{each-sort}
+use Rattle.lxt_chains.proofs.Step.{sorted-quiet}
+use Rattle.lxt_chains.proofs.Bridge.{all-roots, length-roots, getD-roots}
+use Rattle.lxt_chains.proofs.Accepted.{all-allowed, allowed-sound, apart-stacked}
+use Rattle.lxt_chains.specs.Reading.{Ready, Stepping, Readable, Pending, rootOffset}
 use Rattle.lxt_chains.specs.Tree.{Holding}
 use Rattle.lxt_chains.proofs.TreeLaws.{Filled, fill-ended}
+use Rattle.lxt_chains.proofs.NextLaws.{Took, took, number-below, past-after, same-changes}
 use Rattle.lxt_chains.specs.declared.chains.Chains.{Chains}
 
--- an allowed change lies in the file, and the one before it has a small offset
-module _ (s : List ℕ) (inside : endOf s ≤ length s) (small : length s ≤ longestFile) (f o : ℕ) (allowed : Allowed s (pairOf f o)) where
-  sound-here : Sound s (signalOf s f) o
-  sound-here = allowed-sound s allowed
+-- ---- the changes that are left
 
-  pub allowed-inside : (o < length s) × (dataAt s o ≤ length s)
-  allowed-inside =
-      let a = sound-here .before in
-      let b = sound-here .ends in
-      let d : dataAt s o ≤ changeEnd s (signalOf s f) o = (unfold changeEnd in omega arith) in
-      (omega (arith, inside), omega (arith, inside))
-
-  pub allowed-previous : (p : ℕ) → p ≡ previousOf s o → p < longestFile
-  allowed-previous p ep =
-      let a = previous-lt s o (allowed .change) in
-      let b = allowed-inside .0 in
-      omega (arith, small)
+-- they can be read
+pub readable : (s : List ℕ) (c : Chains) (os : List ℕ) → Ready s c → Pending s c os → Readable s os
+readable s c os w p = record { short = w .short; inside = omega (arith, w .end, w .within); each = p .each }
 
 -- what is left to test below a bound gives what the whole gives
 pub record Sweeping (s : List ℕ) (c : Chains) (os₀ : List ℕ) (bound : ℕ) (os : List ℕ) : Type 0 where
@@ -50,66 +33,54 @@ pub record Sweeping (s : List ℕ) (c : Chains) (os₀ : List ℕ) (bound : ℕ)
   pub bounded : bound ≤ c .end
   pub pending : Pending s c os
 
+-- at the start all is left
 pub sweep-begun : (s : List ℕ) (c : Chains) (os : List ℕ) → Ready s c → Pending s c os → Sweeping s c os (c .end) os
 sweep-begun s c os w p = record { same = rw (w .end); bounded = omega arith; pending = p }
 
-module _ (s : List ℕ) (c : Chains) (os₀ : List ℕ) (bound : ℕ) (os : List ℕ) (w : Ready s c) (v : Sweeping s c os₀ bound os) (f o : ℕ) (ef : f ≡ top os) (eo : o ≡ high os) where
+module _ (s : List ℕ) (c : Chains) (os₀ : List ℕ) (bound : ℕ) (os : List ℕ) (w : Ready s c) (v : Sweeping s c os₀ bound os) (f o : ℕ) (ef : f ≡ top os) (eo : o ≡ high os)
+    (os′ : List ℕ) (ea : os′ ≡ offsetsAfter s 1 os) where
+  -- nothing is left
   pub sweep-ended : o ≡ 0 → true ≡ stacked (endAt s) (endOf s) (sort (pendingChanges s 0 os₀))
-  sweep-ended z = sym (stacked-quiet (endAt s) s bound os (sym eo ∙ z)) ∙ v .same
+  unfolding stacked
+  sweep-ended z = (rw (sorted-quiet s os (sym eo ∙ z)) at (v .same))
 
   module _ (some : o ≡ 0 → ⊥) where
-    positive : 0 < high os
-    positive = omega arith
+    taken : Took s os f o os′
+    taken = took s os f o ef eo some os′ ea (readable s c os w (v .pending))
 
-    pub number-below : f < c .facilities
-    number-below = elim (decLe (c .facilities) f) [
-      | yes q ↦ let z = v .pending .past (top os) (rw ef at q) in absurd (omega arith)
-      | no q ↦ omega arith
-    ]
-
-    allowed : Allowed s (pairOf f o)
-    allowed = rw (ef, eo) (each-step s os positive (v .pending .each) .0)
-
+    -- the change that was taken is that of a root
     pub stepping : Stepping s c f o bound
-    stepping =
-        let a = allowed-sound s allowed .before in
-        record { number = number-below; root = allowed .root; offset = rw (w .end) a; bounded = v .bounded }
+    stepping = record {
+      number = number-below s os f o ef eo some (c .facilities) (v .pending .past);
+      root = taken .allowed .root;
+      offset = rw (w .end) (allowed-sound s (taken .allowed) .before);
+      bounded = v .bounded;
+    }
 
-    ending : endOf s ≤ length s
-    ending = omega (arith, w .end, w .within)
-
-    pub change-inside : (o < length s) × (dataAt s o ≤ length s)
-    change-inside = allowed-inside s ending (w .short) f o allowed
-
-    pub previous-small : (p : ℕ) → p ≡ previousOf s o → p < longestFile
-    previous-small p ep = allowed-previous s ending (w .short) f o allowed p ep
+    -- its number fits in 32 bits
+    pub number-small : f < 4294967296
+    number-small = let a = stepping .number in omega (arith, w .most)
 
     module _ (z : Bool) (ez : z ≡ leb (endAt s (pairOf f o)) bound) where
-      here : stacked (endAt s) bound (sort (pendingChanges s 0 os)) ≡ (z && stacked (endAt s) o (sort (pendingChanges s 0 (step s os))))
-      here = stacked-step (endAt s) s bound os positive ∙ rw (ez, ef, eo)
+      here : (z && stacked (endAt s) o (sort (pendingChanges s 0 os′))) ≡ stacked (endAt s) (endOf s) (sort (pendingChanges s 0 os₀))
+      unfolding stacked
+      here = rw ez (rw (taken .first) at (v .same))
 
+      -- it does not end at or below the bound
       pub overlap : z ≡ false → false ≡ stacked (endAt s) (endOf s) (sort (pendingChanges s 0 os₀))
-      overlap h = sym (here ∙ rw h) ∙ v .same
+      overlap h = (rw h at here)
 
-      pub next-change : z ≡ true → (p : ℕ) → p ≡ previousOf s o → (os′ : List ℕ) → os′ ≡ set os f p → Sweeping s c os₀ o os′
-      next-change h p ep os′ es =
-          let e : os′ ≡ step s os = es ∙ (unfold step in rw (ef, ep, eo)) in
-          let b = number-below in
-          record {
-            same = rw e (sym (here ∙ rw h) ∙ v .same);
-            bounded = let a = stepping .offset in omega arith;
-            pending = record {
-              past = λ i k. rw es (getD-set-other os f i p 0 (λ q. omega arith) ∙ v .pending .past i k);
-              each = rw e (each-step s os positive (v .pending .each) .1);
-            };
-          }
+      -- it does
+      pub next-change : z ≡ true → Sweeping s c os₀ o os′
+      next-change h = record {
+        same = (rw h at here);
+        bounded = let a = stepping .offset in omega arith;
+        pending = record { past = past-after s os f o ef eo some os′ ea (c .facilities) (v .pending .past); each = taken .readable .each };
+      }
 
-    pub fewer-left : (p : ℕ) → p ≡ previousOf s o → (os′ : List ℕ) → os′ ≡ set os f p
-        → length (sort (pendingChanges s 0 os′)) < length (sort (pendingChanges s 0 os))
-    fewer-left p ep os′ es =
-        let e : os′ ≡ step s os = es ∙ (unfold step in rw (ef, ep, eo)) in
-        let l = length-left s os positive in
-        rw e (omega arith)
+    -- one change fewer is left
+    pub fewer-left : length (sort (pendingChanges s 0 os′)) < length (sort (pendingChanges s 0 os))
+    fewer-left = let e = ap length (taken .first) in omega arith
 
 -- ---- the offsets of all roots
 
@@ -131,14 +102,6 @@ roots-ended s c m f nodes w r h =
     fill-ended (rootOffset s) (c .facilities) m f nodes w (rootOffsets s) (length-roots s ∙ sym k) (λ i b. sym (getD-roots s i (omega arith))) h
 
 -- ---- the whole check
-
--- offsets that differ in zeros at their end stand for the same changes
-same-changes : (s : List ℕ) (i : ℕ) (os os′ : List ℕ) → ((k : ℕ) → getD os k 0 ≡ getD os′ k 0) → pendingChanges s i os ≡ pendingChanges s i os′
-unfolding pendingChanges
-same-changes s i [] [] h = refl
-same-changes s i [] (o ∷ os′) h = rw (← h 0, changes-none s i) (same-changes s (suc i) [] os′ (λ k. h (suc k)))
-same-changes s i (o ∷ os) [] h = rw (h 0, changes-none s i) (same-changes s (suc i) os [] (λ k. h (suc k)))
-same-changes s i (o ∷ os) (o′ ∷ os′) h = rw (h 0, same-changes s (suc i) os os′ (λ k. h (suc k)))
 
 module _ (s : List ℕ) (m : ℕ) (nodes : List ℕ) (w : Holding (rootOffsets s) m nodes) (os : List ℕ) (e : os ≡ drop m nodes) where
   pub root-changes : pendingChanges s 0 os ≡ pendingChanges s 0 (rootOffsets s)

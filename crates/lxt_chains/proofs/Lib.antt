@@ -1,4 +1,11 @@
+pub mod Lists
+pub mod Sorted
+pub mod Step
+pub mod Bridge
+pub mod Check17
+pub mod Accepted
 pub mod ChainLaws
 pub mod TreeLaws
+pub mod NextLaws
 pub mod ApartLaws
 pub mod WholeWays

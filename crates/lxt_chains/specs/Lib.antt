@@ -1,9 +1,3 @@
 pub mod Pending
-pub mod Lists
-pub mod Sorted
-pub mod Step
-pub mod Bridge
-pub mod Check17
-pub mod Accepted
 pub mod Reading
 pub mod Tree

@@ -13,9 +13,7 @@ use Rattle.lxt_format.specs.Walk.{sort}
 use Rattle.lxt_tables.specs.Stage.{Geometry}
 use Rattle.lxt_tables.specs.Asked.{Sync}
 use Rattle.lxt_changes.specs.Faults.{LastZero}
-use Rattle.lxt_chains.specs.Pending.{pendingChanges}
-use Rattle.lxt_chains.specs.Lists.{Each}
-use Rattle.lxt_chains.specs.Accepted.{Allowed}
+use Rattle.lxt_chains.specs.Pending.{pendingChanges, Each, Allowed}
 use Rattle.lxt_chains.specs.declared.chains.Chains.{Chains}
 
 -- the places of a file that refusals 1 to 14 pass
@@ -44,6 +42,12 @@ facilityFault s f = if isAlias s f then 0 else faultFrom s f (syncOf s f)
 -- the pending offset from which all changes of a facility follow
 unfoldable pub rootOffset : List ℕ → ℕ → ℕ
 rootOffset s f = if isAlias s f then 0 else syncOf s f
+
+-- pending offsets from which on every change is allowed, in a file in which T lies and whose offsets fit in 32 bits
+pub record Readable (s os : List ℕ) : Type 0 where
+  pub short : length s ≤ longestFile
+  pub inside : endOf s ≤ length s
+  pub each : Each (Allowed s) (sort (pendingChanges s 0 os))
 
 -- a pending offset for each facility and 0 past them, from which on every change is allowed
 pub record Pending (s : List ℕ) (c : Chains) (os : List ℕ) : Type 0 where

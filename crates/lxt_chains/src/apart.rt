@@ -6,13 +6,12 @@ ghost use lib.ListN.{drop};
 ghost use Rattle.lxt_format.specs.Sections.{endOf};
 ghost use Rattle.lxt_format.specs.Judge.{endAt, changesApart, chainsRefusal};
 ghost use Rattle.lxt_format.specs.Walk.{sort};
-ghost use Rattle.lxt_chains.specs.Pending.{pendingChanges, rootOffsets};
-ghost use Rattle.lxt_chains.specs.Check17.{stacked};
+ghost use Rattle.lxt_chains.specs.Pending.{pendingChanges, rootOffsets, stacked};
 ghost use Rattle.lxt_chains.specs.Reading.{Ready, Stepping, Pending, rootOffset};
 ghost use Rattle.lxt_chains.specs.Tree.{Tree, Blank, Holding};
 use crate::chains::Chains;
+use crate::next;
 use crate::tree;
-use lxt_changes::delta;
 use lxt_changes::ends;
 use lxt_tables::geometry;
 
@@ -27,7 +26,7 @@ fn root_ends_by(file: &[u8], c: Chains, f: u32, o: u32, bound: usize) -> bool
 }
 
 // Whether the changes from the pending offsets on end each at or below the start of the one above it,
-// and the first at or below T. The offsets stand in the leaves of a tree with `m` leaves and are stepped
+// and the first at or below T. The offsets stand in the leaves of a tree with `m` leaves and are taken
 // down to 0, or to where that fails.
 fn all_stacked(file: &[u8], c: Chains, nodes: &mut [u32], m: usize) -> bool
     requires { ⌜ Ready (now file) c × ((c .facilities ≤ m) × (Tree m (now nodes) × Pending (now file) c (drop m (now nodes)))) ⌝ }
@@ -35,18 +34,15 @@ fn all_stacked(file: &[u8], c: Chains, nodes: &mut [u32], m: usize) -> bool
 {
     let mut bound = c.end;
     'changes: loop {
-        let top = tree::highest(nodes, m);
-        let number = top.number;
-        let o = top.offset;
+        let taken = next::take_highest(file, nodes, m);
+        let o = taken.offset;
         if o == 0 {
             break 'changes;
         }
-        if !root_ends_by(file, c, number as u32, o, bound) {
+        if !root_ends_by(file, c, taken.number as u32, o, bound) {
             return false;
         }
         bound = o as usize;
-        let previous = delta::previous(file, bound) as u32;
-        tree::put(nodes, m, number, previous);
     }
     true
 }
@@ -89,7 +85,7 @@ pub fn all_apart(file: &[u8], c: Chains) -> bool
     requires { ⌜ Ready (now file) c × (chainsRefusal (now file) ≡ 0) ⌝ }
     ensures { λ r. ⌜ r ≡ changesApart (now (file .entry)) ⌝ }
 {
-    let mut nodes = [0u32; 8192];
+    let mut nodes = [0u32; tree::NODES];
     let n = c.facilities as usize;
     let m = tree::leaves_for(n);
     apart_within(file, c, &mut nodes[..2 * m], m)

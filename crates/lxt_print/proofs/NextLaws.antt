@@ -16,7 +16,7 @@ use Rattle.lxt_format.specs.Names.{nameOf}
 use Rattle.lxt_format.specs.Walk.{sort, high, step, offsetsAfter}
 use Rattle.lxt_format.specs.declared.Pair.{Pair}
 use Rattle.lxt_chains.specs.Pending.{pendingChanges}
-use Rattle.lxt_chains.specs.Step.{sorted-quiet, sorted-step, length-left}
+use Rattle.lxt_chains.proofs.Step.{sorted-quiet, sorted-step, length-left}
 use Rattle.lxt_values.specs.declared.entries.Entry.{Entry}
 use Rattle.lxt_values.specs.declared.names.NamesLeft.{NamesLeft}
 use Rattle.lxt_print.specs.Lines.{decimal, space, newline, doneWord, facilityLine, doneLine}

@@ -26,17 +26,18 @@ use Rattle.lxt_tables.specs.declared.Tables.{Tables}
 use Rattle.lxt_tables.specs.Stage.{tablesOf}
 use Rattle.lxt_tables.proofs.TablesLaws.{refusal-is}
 use Rattle.lxt_chains.specs.declared.chains.Chains.{Chains}
-use Rattle.lxt_chains.specs.Pending.{pairOf, pendingChanges, rootOffsets}
+use Rattle.lxt_chains.specs.Pending.{pairOf, pendingChanges, rootOffsets, Allowed, stacked, Each}
+use Rattle.lxt_chains.proofs.Lists.{each-map}
+use Rattle.lxt_chains.proofs.Sorted.{each-sort}
+use Rattle.lxt_chains.proofs.Step.{high-ge, top-lt, length-left}
+use Rattle.lxt_chains.proofs.Bridge.{all-roots}
+use Rattle.lxt_chains.proofs.Check17.{each-step}
+use Rattle.lxt_chains.proofs.Accepted.{all-allowed, allowed-fits, apart-stacked}
 use Rattle.lxt_chains.specs.Reading.{Ready}
 use Rattle.lxt_chains.specs.Tree.{Tree, Blank, Holding}
-use Rattle.lxt_chains.specs.Accepted.{Allowed, all-allowed, allowed-fits, apart-stacked}
-use Rattle.lxt_chains.specs.Bridge.{all-roots}
-use Rattle.lxt_chains.specs.Check17.{stacked, each-step}
-use Rattle.lxt_chains.specs.Lists.{Each, each-map}
-use Rattle.lxt_chains.specs.Sorted.{each-sort}
 use Rattle.lxt_format.specs.declared.Pair.{Pair}
-use Rattle.lxt_chains.proofs.ApartLaws.{allowed-inside, allowed-previous, pending-roots, root-changes}
-use Rattle.lxt_chains.specs.Step.{high-ge, top-lt, length-left}
+use Rattle.lxt_chains.proofs.NextLaws.{allowed-inside, allowed-previous}
+use Rattle.lxt_chains.proofs.ApartLaws.{pending-roots, root-changes}
 use Rattle.lxt_values.specs.Times as Ti
 use Rattle.lxt_values.specs.Entries.{EntryAt, Latest}
 use Rattle.lxt_values.specs.declared.entries.Entry.{Entry}

@@ -26,8 +26,8 @@ use Rattle.lxt_tables.specs.Stage.{Geometry}
 use Rattle.lxt_tables.specs.declared.Tables.{Tables}
 use Rattle.lxt_tables.proofs.TablesLaws.{width-most}
 use Rattle.lxt_values.specs.Times as Ti
-use Rattle.lxt_chains.specs.Pending.{pairOf}
-use Rattle.lxt_chains.specs.Accepted.{Allowed, allowed-sound}
+use Rattle.lxt_chains.specs.Pending.{pairOf, Allowed}
+use Rattle.lxt_chains.proofs.Accepted.{allowed-sound}
 use Rattle.lxt_values.specs.Value.{Readies}
 use Rattle.lxt_values.proofs.ReadLaws.{symbols-long, bits-drawn, integer-drawn}
 use Rattle.lxt_reader.proofs.ValueWays.{order-is, order-there}

@@ -9,9 +9,7 @@ use Rattle.lxt_format.specs.Judge.{allChanges}
 use Rattle.lxt_format.specs.Walk.{sort, high, handedOut}
 use Rattle.lxt_format.specs.declared.Pair.{Pair}
 use Rattle.lxt_tables.specs.declared.Tables.{Tables}
-use Rattle.lxt_chains.specs.Pending.{pendingChanges}
-use Rattle.lxt_chains.specs.Lists.{Each}
-use Rattle.lxt_chains.specs.Accepted.{Allowed}
+use Rattle.lxt_chains.specs.Pending.{pendingChanges, Each, Allowed}
 use Rattle.lxt_chains.specs.Tree.{Tree}
 use Rattle.lxt_values.specs.Entries.{Latest}
 use Rattle.lxt_values.specs.declared.entries.Entry.{Entry}

@@ -24,7 +24,7 @@ use Rattle.lxt_format.specs.declared.Pair.{Pair}
 use Rattle.lxt_format.specs.declared.StartAnswer.{StartAnswer}
 use Rattle.lxt_format.specs.declared.CarryAnswer.{CarryAnswer}
 use Rattle.lxt_format.specs.Answers.{startSays, carrySays}
-use Rattle.lxt_chains.specs.Bridge.{length-start}
+use Rattle.lxt_chains.proofs.Bridge.{length-start}
 use Rattle.lxt_walk.specs.Calls.{Starts, Carries}
 use Rattle.lxt_walk.proofs.Handed.{length-after}
 use Rattle.lxt_walk.proofs.Record.{length-with}

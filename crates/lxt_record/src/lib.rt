@@ -43,11 +43,13 @@ fn zip(pairs: &mut [Pair], n: usize, numbers: &[u32], offsets: &[u32])
 }
 
 // How many pairs of a record a walk can need: one for each facility of a file.
+const ROOM: usize = Summary::MOST_FACILITIES as usize;
+
+// How many pairs of a record are copied.
 fn room_for(pairs: usize) -> usize
     ensures { λ r. ⌜ r ≡ min pairs mostFacilities ⌝ }
 {
-    let most = Summary::MOST_FACILITIES as usize;
-    if pairs < most { pairs } else { most }
+    if pairs < ROOM { pairs } else { ROOM }
 }
 
 // Starts a walk over the first `room` numbers and offsets.
@@ -83,8 +85,8 @@ fn carry_within(
 pub fn start(file: &[u8], asked: &[u8], pairs: &mut [Pair]) -> StartAnswer
     ensures { λ r. ⌜ Starts (now (file .entry)) (now (asked .entry)) (now (pairs .entry)) r (now (pairs .exit)) ⌝ }
 {
-    let mut numbers = [0u32; 4096];
-    let mut offsets = [0u32; 4096];
+    let mut numbers = [0u32; ROOM];
+    let mut offsets = [0u32; ROOM];
     let room = room_for(pairs.len());
     unzip(pairs, room, &mut numbers, &mut offsets);
     let answer = start_within(file, asked, room, &mut numbers, &mut offsets);
@@ -96,8 +98,8 @@ pub fn start(file: &[u8], asked: &[u8], pairs: &mut [Pair]) -> StartAnswer
 pub fn carry_on(file: &[u8], pairs: &mut [Pair], size: u32, output: &mut [u32]) -> CarryAnswer
     ensures { λ r. ⌜ Carries (now (file .entry)) (now (pairs .entry)) size (now (output .entry)) r (now (output .exit)) (now (pairs .exit)) ⌝ }
 {
-    let mut numbers = [0u32; 4096];
-    let mut offsets = [0u32; 4096];
+    let mut numbers = [0u32; ROOM];
+    let mut offsets = [0u32; ROOM];
     let room = room_for(pairs.len());
     unzip(pairs, room, &mut numbers, &mut offsets);
     let answer = carry_within(file, room, &numbers, &mut offsets, size, output);

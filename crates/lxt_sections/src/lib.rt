@@ -79,20 +79,22 @@ fn frame(file: &[u8]) -> u8
     0
 }
 
-// The section list: whether END was met, the counting value of each tag from 00 to 12 hex, and
-// END's offset.
+// How many tags there are, from 00 to 12 hex.
+const TAGS: usize = 19;
+
+// The section list: whether END was met, the counting value of each tag, and END's offset.
 pub struct Listing {
     pub listed: bool,
-    pub table: [u32; 19],
+    pub table: [u32; TAGS],
     pub end: usize,
 }
 
-// The table with the value of a tag; a tag above 12 hex is skipped.
-fn put(table: [u32; 19], tag: usize, value: u32) -> [u32; 19]
+// The table with the value of a tag; a tag above them is skipped.
+fn put(table: [u32; TAGS], tag: usize, value: u32) -> [u32; TAGS]
     ensures { λ r. ⌜ r ≡ set table tag value ⌝ }
 {
     let mut t = table;
-    if tag < 19 {
+    if tag < TAGS {
         t[tag] = value;
     }
     t
@@ -103,7 +105,7 @@ fn unlisted() -> Listing
 {
     Listing {
         listed: false,
-        table: [0u32; 19],
+        table: [0u32; TAGS],
         end: 0,
     }
 }
@@ -113,7 +115,7 @@ fn unlisted() -> Listing
 fn list(file: &[u8]) -> Listing
     ensures { λ r. ⌜ r ≡ listedOf (now (file .entry)) ⌝ }
 {
-    let mut met = [0u32; 19];
+    let mut met = [0u32; TAGS];
     let start = SectionCursor::fresh(file.len());
     let mut p = start.at;
     let table = 'items: loop {
@@ -156,7 +158,7 @@ pub struct Places {
 }
 
 // One of the tags 0A to 12 counts.
-fn any_compressed(t: [u32; 19]) -> bool
+fn any_compressed(t: [u32; TAGS]) -> bool
     ensures { λ r. ⌜ r ≡ any (λ tag. not (eqb (getD t tag 0) 0)) (range 0x0A 9) ⌝ }
 {
     (t[10] != 0)

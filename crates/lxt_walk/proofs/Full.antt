@@ -18,13 +18,13 @@ use Rattle.lxt_format.specs.JudgeLaws.{accepted}
 use Rattle.lxt_format.specs.Judge.{chainsRefusal, changesOf, allChanges, endAt, fileRefusal}
 use Rattle.lxt_format.specs.Walk.{asks, sort, fullList}
 use Rattle.lxt_format.specs.declared.Pair.{Pair}
-use Rattle.lxt_chains.specs.Lists.{Each, each-map, each-range, each-select, each-selected}
-use Rattle.lxt_chains.specs.Pending.{pairOf, chainPairs}
-use Rattle.lxt_chains.specs.Step.{changes-none, changes-more}
-use Rattle.lxt_chains.specs.Sorted.{Below, below-weaken, insert-first, each-sort}
-use Rattle.lxt_chains.specs.Bridge.{all-roots}
-use Rattle.lxt_chains.specs.Check17.{Fits, stacked}
-use Rattle.lxt_chains.specs.Accepted.{Allowed, all-allowed, allowed-fits, apart-stacked}
+use Rattle.lxt_chains.specs.Pending.{Each, pairOf, chainPairs, stacked, Allowed}
+use Rattle.lxt_chains.proofs.Lists.{each-map, each-range, each-select, each-selected}
+use Rattle.lxt_chains.proofs.Sorted.{Below, below-weaken, insert-first, each-sort}
+use Rattle.lxt_chains.proofs.Step.{changes-none, changes-more}
+use Rattle.lxt_chains.proofs.Bridge.{all-roots}
+use Rattle.lxt_chains.proofs.Check17.{Fits}
+use Rattle.lxt_chains.proofs.Accepted.{all-allowed, allowed-fits, apart-stacked}
 use Rattle.lxt_format.specs.WalkLaws.{asked-root}
 use Rattle.lxt_walk.proofs.Wider.{pairsOf, below-pairs, pairs-chosen}
 

@@ -13,10 +13,8 @@ use Rattle.lxt_format.specs.BasicsLaws.{on-test, on-zero, range-all}
 use Rattle.lxt_format.specs.Sections.{facilityCount}
 use Rattle.lxt_format.specs.Walk.{sort, numbered, withOffsets, offsetsOf, pairAllowed, recordAllowed, flat}
 use Rattle.lxt_format.specs.declared.Pair.{Pair}
-use Rattle.lxt_chains.specs.Pending.{pairOf, pendingChanges, firstOf}
-use Rattle.lxt_chains.specs.Lists.{Each}
+use Rattle.lxt_chains.specs.Pending.{pairOf, pendingChanges, firstOf, Each, Allowed}
 use Rattle.lxt_walk.proofs.Handed.{pending-first}
-use Rattle.lxt_chains.specs.Accepted.{Allowed}
 
 -- ---- pairs in a buffer
 

@@ -23,7 +23,7 @@ use Rattle.lxt_tables.specs.Stage.{Geometry, tablesOf}
 use Rattle.lxt_tables.specs.Asked.{Sync}
 use Rattle.lxt_tables.specs.declared.Tables.{Tables}
 use Rattle.lxt_tables.proofs.TablesLaws.{Known, known, refusal-is}
-use Rattle.lxt_chains.specs.Bridge.{length-start, getD-start}
+use Rattle.lxt_chains.proofs.Bridge.{length-start, getD-start}
 use Rattle.lxt_walk.proofs.ColumnsLaws.{length-paired, numbers-onto, offsets-onto, length-onto, onto-next, onto-again, numbers-with, offsets-with-given}
 use Rattle.lxt_walk.specs.Carrying.{Starting}
 

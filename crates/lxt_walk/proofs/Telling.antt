@@ -17,9 +17,9 @@ use Rattle.lxt_format.specs.Answers.{carrySays}
 use Rattle.lxt_format.specs.Questions.{startRefusal, startRecord, carryRefusal, carryPairs, carryOffsets, carryAsked, carryRecord, carryOutput}
 use Rattle.lxt_format.specs.declared.Pair.{Pair}
 use Rattle.lxt_chains.specs.Pending.{pairOf, pendingChanges, firstOf}
-use Rattle.lxt_chains.specs.Lists.{each-map, each-drop}
+use Rattle.lxt_chains.proofs.Lists.{each-map, each-drop}
+use Rattle.lxt_chains.proofs.Bridge.{full-start, length-start}
 use Rattle.lxt_walk.proofs.Handed.{length-after, pending-first, call-hands, call-leaves, call-done}
-use Rattle.lxt_chains.specs.Bridge.{full-start, length-start}
 use Rattle.lxt_format.specs.JudgeLaws.{passed, accepted}
 use Rattle.lxt_format.specs.WalkLaws.{asked-below}
 use Rattle.lxt_walk.proofs.Full.{full-asked, full-allowed, full-falling, falling-at}

@@ -15,9 +15,9 @@ use Rattle.lxt_format.specs.Changes.{chainOf}
 use Rattle.lxt_format.specs.Judge.{changesOf}
 use Rattle.lxt_format.specs.Walk.{asks, insert, sort, fullList}
 use Rattle.lxt_format.specs.declared.Pair.{Pair}
-use Rattle.lxt_chains.specs.Pending.{pairOf}
-use Rattle.lxt_chains.specs.Lists.{Each, select-append, each-range}
-use Rattle.lxt_chains.specs.Sorted.{Below, below-weaken, insert-first, insert-later, Sorted, sort-sorted}
+use Rattle.lxt_chains.specs.Pending.{pairOf, Each}
+use Rattle.lxt_chains.proofs.Lists.{select-append, each-range}
+use Rattle.lxt_chains.proofs.Sorted.{Below, below-weaken, insert-first, insert-later, Sorted, sort-sorted}
 
 -- the pairs of the facilities of which a test holds
 abbrev pub pairsOf : (ℕ → Bool) → List Pair → List Pair

@@ -3,15 +3,12 @@ use Prim.Native.Nat.{ℕ, _≤_, _<_}
 use mathlib.Core.Path.{_≡_}
 use mathlib.Core.List.{List}
 use lib.ListN.{length, getD, take}
-use Rattle.lxt_format.specs.Limits.{longestFile, mostFacilities}
-use Rattle.lxt_format.specs.Sections.{facilityCount, endOf}
+use Rattle.lxt_format.specs.Limits.{mostFacilities}
+use Rattle.lxt_format.specs.Sections.{facilityCount}
 use Rattle.lxt_format.specs.Judge.{fileRefusal}
-use Rattle.lxt_format.specs.Walk.{sort}
 use Rattle.lxt_tables.specs.Stage.{tablesOf}
 use Rattle.lxt_tables.specs.declared.Tables.{Tables}
-use Rattle.lxt_chains.specs.Pending.{pendingChanges}
-use Rattle.lxt_chains.specs.Lists.{Each}
-use Rattle.lxt_chains.specs.Accepted.{Allowed}
+use Rattle.lxt_chains.specs.Reading.{Readable}
 use Rattle.lxt_chains.specs.Tree.{Tree, Blank, Holding}
 
 -- the tables of an accepted file, a byte for each facility, and a pending offset for each, all of them 0
@@ -24,11 +21,9 @@ pub record Starting (s : List ℕ) (t : Tables) (asked offsets : List ℕ) : Typ
 
 -- a file whose tables have passed, and a pending offset for each facility, from which on every change is allowed
 pub record Walkable (s offsets : List ℕ) : Type 0 where
-  pub small : length s ≤ longestFile
-  pub inside : endOf s ≤ length s
   pub few : facilityCount s ≤ mostFacilities
   pub wide : facilityCount s ≤ length offsets
-  pub each : Each (Allowed s) (sort (pendingChanges s 0 (take (facilityCount s) offsets)))
+  pub readable : Readable s (take (facilityCount s) offsets)
 
 -- and room for a tree that has a leaf for each
 pub record Filled (s : List ℕ) (m : ℕ) (nodes offsets : List ℕ) : Type 0 where

@@ -13,7 +13,7 @@ use Rattle.lxt_format.specs.Geometry.{isAlias, rootsOf, syncOf}
 use Rattle.lxt_format.specs.Judge.{changesOf, allChanges}
 use Rattle.lxt_format.specs.Walk.{asks, sort, fullList, startOffsets}
 use Rattle.lxt_chains.specs.Pending.{chainPairs, pendingChanges, rootOffsets}
-use Rattle.lxt_chains.specs.Step.{changes-none}
+use Rattle.lxt_chains.proofs.Step.{changes-none}
 
 -- what a function gives of each number of a range
 getD-over : (g : ℕ → ℕ) (i k f : ℕ) → f < k → getD (map g (range i k)) f 0 ≡ g (i + f)

@@ -3,18 +3,14 @@ use Prim.Native.Nat.{ℕ, zero, suc, _+_, _≤_, _<_, min}
 use native.Mathlib.Omega.{arith}
 use native.Mathlib.Nat.{min-zero, zero-min, suc-min-suc}
 use mathlib.Core.Path.{_≡_, refl, sym, ap, _∙_}
-use mathlib.Core.Bool.{Bool, true, false≢true}
+use mathlib.Core.Bool.{Bool, true}
 use mathlib.Core.List.{List, [], _∷_, _++_, map}
 use lib.ListN.{length, take, drop}
 use lib.Dec.{eqb}
 use borrow.Author.Tests.{eqb-true, eqb-false, eq-eqb, ne-eqb}
-use Rattle.lxt_format.specs.Basics.{range, all, any, select, joined, firstFault}
-use Rattle.lxt_format.specs.BasicsLaws.{on-test, and-both, both-and, or-either, neither}
-
--- P holds of each element of a list
-pub data Each {A : Type 0} (P : A → Type 0) : List A → Type 0 where
-  none : Each P []
-  both : {x : A} {l : List A} → P x → Each P l → Each P (x ∷ l)
+use Rattle.lxt_format.specs.Basics.{range, all, select, joined, firstFault}
+use Rattle.lxt_format.specs.BasicsLaws.{on-test, and-both, both-and, neither}
+use Rattle.lxt_chains.specs.Pending.{Each}
 
 module _ {A : Type 0} where
   -- what follows from a property of each holds of each

@@ -16,17 +16,11 @@ use Rattle.lxt_format.specs.Judge.{signalOf, faultFrom, chainsRefusal, changesO
 use Rattle.lxt_format.specs.JudgeLaws.{newest-sound}
 use Rattle.lxt_format.specs.Walk.{sort}
 use Rattle.lxt_format.specs.declared.Pair.{Pair}
-use Rattle.lxt_chains.specs.Pending.{chainPairs, pendingChanges, rootOffsets}
-use Rattle.lxt_chains.specs.Lists.{Each, each-map, each-both, each-joined, each-selected, faultless}
-use Rattle.lxt_chains.specs.Step.{changes-none, changes-more}
-use Rattle.lxt_chains.specs.Bridge.{all-roots}
-use Rattle.lxt_chains.specs.Check17.{Fits, stacked, check-17}
-
--- a change of a root from which the chain downwards breaks no rule of 15 or 16
-pub record Allowed (s : List ℕ) (p : Pair) : Type 0 where
-  pub root : isAlias s (p .number) ≡ false
-  pub change : 0 < p .offset
-  pub chain : faultFrom s (p .number) (p .offset) ≡ 0
+use Rattle.lxt_chains.specs.Pending.{chainPairs, pendingChanges, rootOffsets, Each, stacked, Allowed}
+use Rattle.lxt_chains.proofs.Lists.{each-map, each-both, each-joined, each-selected, faultless}
+use Rattle.lxt_chains.proofs.Step.{changes-none, changes-more}
+use Rattle.lxt_chains.proofs.Bridge.{all-roots}
+use Rattle.lxt_chains.proofs.Check17.{Fits, check-17}
 
 module _ (s : List ℕ) where
   -- each change of a chain without a fault is allowed, k bounding their offsets

@@ -12,15 +12,10 @@ use Rattle.lxt_format.specs.BasicsLaws.{on-test, and-both}
 use Rattle.lxt_format.specs.Judge.{apart, pairwise}
 use Rattle.lxt_format.specs.Walk.{insert, sort, top, high, step}
 use Rattle.lxt_format.specs.declared.Pair.{Pair}
-use Rattle.lxt_chains.specs.Lists.{Each, each-map, each-both, each-all, all-each, all-same}
-use Rattle.lxt_chains.specs.Sorted.{Below, Sorted, sort-sorted, each-sort}
-use Rattle.lxt_chains.specs.Pending.{pairOf, pendingChanges}
-use Rattle.lxt_chains.specs.Step.{sorted-quiet, sorted-step}
-
--- each change of a list ends at or below the start of the one before it, and the first at or below a bound
-unfoldable pub stacked : (Pair → ℕ) → ℕ → List Pair → Bool
-stacked end bound [] = true
-stacked end bound (p ∷ l) = leb (end p) bound && stacked end (p .offset) l
+use Rattle.lxt_chains.specs.Pending.{Each, pairOf, pendingChanges, stacked}
+use Rattle.lxt_chains.proofs.Lists.{each-map, each-both, each-all, all-each, all-same}
+use Rattle.lxt_chains.proofs.Sorted.{Below, Sorted, sort-sorted, each-sort}
+use Rattle.lxt_chains.proofs.Step.{sorted-step}
 
 -- a change ends above its start and at or below T
 pub record Fits (end : Pair → ℕ) (T : ℕ) (p : Pair) : Type 0 where
@@ -117,20 +112,7 @@ module _ (end : Pair → ℕ) where
   pub check-17 : (T : ℕ) (l : List Pair) → Each (Fits end T) l → pairwise (apart end) l ≡ stacked end T (sort l)
   check-17 T l h = sym (pairwise-sort (apart end) apart-either l) ∙ sorted-stacked (sort-sorted l) (each-sort h)
 
--- ---- going down the sorted changes of pending offsets: nothing left, or the highest and then a step
-
-module _ (end : Pair → ℕ) (s : List ℕ) (bound : ℕ) (os : List ℕ) where
-  -- where nothing is pending, nothing is left to test
-  pub stacked-quiet : high os ≡ 0 → stacked end bound (sort (pendingChanges s 0 os)) ≡ true
-  unfolding stacked
-  stacked-quiet h = rw (sorted-quiet s os h)
-
-  -- else the highest must end at or below the bound, and the rest is stacked below its start
-  pub stacked-step : 0 < high os
-      → stacked end bound (sort (pendingChanges s 0 os))
-      ≡ (leb (end (pairOf (top os) (high os))) bound && stacked end (high os) (sort (pendingChanges s 0 (step s os))))
-  unfolding stacked
-  stacked-step h = rw (sorted-step s os h)
+-- ---- going down the sorted changes of pending offsets
 
 -- what holds of each change that is left holds of the highest, and of each that a step leaves
 pub each-step : {P : Pair → Type 0} (s os : List ℕ) → 0 < high os → Each P (sort (pendingChanges s 0 os))
