@@ -17,8 +17,7 @@ use Rattle.lxt_format.specs.declared.Kind.the-variants.{Bits, Integer, Real, Te
 use Rattle.lxt_format.specs.declared.Facts.{Facts}
 use Rattle.lxt_tables.specs.Stage.{Geometry}
 use Rattle.lxt_tables.specs.declared.Tables.{Tables}
-use Rattle.lxt_tables.proofs.TablesLaws.{Known, entry-allowed}
-use Rattle.lxt_reader.proofs.AskWays.{tables-known}
+use Rattle.lxt_tables.proofs.TablesLaws.{Known, tables-known, entry-allowed}
 use Rattle.lxt_print.specs.Lines.{decimal, space, newline, facilityWord, doneWord, refusedWord, aliasWord, kindWord, facilityLine, doneLine, refusedLine}
 use Rattle.lxt_print.specs.Placing.{placed, Opened, Put, facilityHead, facilityEnd}
 use Rattle.lxt_print.proofs.TextLaws.{length-placed, placed-more, placed-start}

@@ -24,13 +24,13 @@ use Rattle.lxt_format.specs.declared.Kind.the-variants.{Bits, Integer, Real, Te
 use Rattle.lxt_format.specs.declared.Facts.{Facts}
 use Rattle.lxt_tables.specs.Stage.{Geometry}
 use Rattle.lxt_tables.specs.declared.Tables.{Tables}
-use Rattle.lxt_tables.proofs.TablesLaws.{width-most}
+use Rattle.lxt_tables.proofs.TablesLaws.{width-most, has-real, real-order}
+use Rattle.lxt_values.specs.Reals.{order-places}
 use Rattle.lxt_values.specs.Times as Ti
 use Rattle.lxt_chains.specs.Pending.{pairOf, Allowed}
 use Rattle.lxt_chains.proofs.Accepted.{allowed-sound}
 use Rattle.lxt_values.specs.Value.{Readies}
 use Rattle.lxt_values.proofs.ReadLaws.{symbols-long, bits-drawn, integer-drawn}
-use Rattle.lxt_reader.proofs.ValueWays.{order-is, order-there}
 use Rattle.lxt_print.specs.Lines.{decimal, space, changeWord, hexBytes, valueText, changeLine}
 use Rattle.lxt_print.specs.Placing.{placed, Opened, Put, changeHead}
 use Rattle.lxt_print.proofs.TextLaws.{placed-none}
@@ -76,8 +76,10 @@ module _ (s : List ℕ) (t : Tables) (w : Opened s t) (f : ℕ) (l : f < t .faci
           limit = k .end;
           within = omega (arith, k .end-high);
           short = k .long;
-          ordered = λ q. order-is s f below (a .root) (rw e at q) t k;
-          places = λ q. order-there s f below (a .root) (rw e at q) t k;
+          ordered = λ q. real-order s f below (a .root) (rw e at q) t k;
+          places = λ q.
+              let real = rw e at q in
+              rw (real-order s f below (a .root) real t k) (order-places s (has-real s f below (a .root) real) (k .passed .real-test));
           enough = omega arith;
         }
 

@@ -15,15 +15,10 @@ use Rattle.lxt_format.specs.Questions.{facilityRefusal, factsAsked, rootAsked}
 use Rattle.lxt_format.specs.declared.Facts.{Facts}
 use Rattle.lxt_tables.specs.Stage.{Geometry, tablesOf}
 use Rattle.lxt_tables.specs.declared.Tables.{Tables}
-use Rattle.lxt_tables.proofs.TablesLaws.{Known, known, refusal-is, entry-allowed, root-in, root-plain}
+use Rattle.lxt_tables.proofs.TablesLaws.{Known, tables-known, entry-allowed, root-in, root-plain}
 use Rattle.lxt_reader.specs.Asking.{Answers}
 use Rattle.lxt_reader.specs.declared.facilities.Asked.{Asked}
 use lib.Dec.{lit<}
-
--- ---- the tables of an accepted file
-
-pub tables-known : (s : List ℕ) (t : Tables) → t ≡ tablesOf s → fileRefusal s ≡ 0 → Known s t
-tables-known s t e h = known s t e (refusal-is s t e ∙ accepted s h .tables)
 
 -- ---- the ways out of `ask`
 

@@ -17,14 +17,14 @@ use Rattle.lxt_format.specs.JudgeLaws.{accepted, root-sound}
 use Rattle.lxt_format.specs.Questions.{facilityRefusal, changeRefusal, chainAsked, beforeAsked}
 use Rattle.lxt_format.specs.declared.Facts.{Facts}
 use Rattle.lxt_tables.specs.Asked.{Sync}
-use Rattle.lxt_tables.proofs.TablesLaws.{Known, root-in, root-plain}
+use Rattle.lxt_tables.proofs.TablesLaws.{Known, root-in, root-plain, tables-known}
 use Rattle.lxt_values.specs.Times.{Readable, change}
 use Rattle.lxt_values.specs.TimesLaws.{chain-readable, change-sound}
 use Rattle.lxt_reader.specs.Asking.{Answers}
 use Rattle.lxt_reader.specs.Changing.{Followed, Chained, Looked}
 use Rattle.lxt_reader.specs.declared.facilities.Asked.{Asked}
 use Rattle.lxt_reader.specs.declared.changes.Chain.{Chain}
-use Rattle.lxt_reader.proofs.AskWays.{tables-known, all-known, facility-below, file-accepted}
+use Rattle.lxt_reader.proofs.AskWays.{all-known, facility-below, file-accepted}
 
 -- ---- the ways out of `find_chain`
 

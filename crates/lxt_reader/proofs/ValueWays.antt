@@ -25,16 +25,15 @@ use Rattle.lxt_format.specs.Judge.{signalBy, fileRefusal, faultFrom}
 use Rattle.lxt_format.specs.declared.TimedValue.{TimedValue}
 use Rattle.lxt_format.specs.declared.Kind.{Kind}
 use Rattle.lxt_format.specs.declared.Kind.the-variants.{Bits, Integer, Real, Text}
-use Rattle.lxt_values.specs.Reals.{Places, order-places}
+use Rattle.lxt_values.specs.Reals.{order-places}
 use Rattle.lxt_values.specs.Times as Ti
 use Rattle.lxt_values.specs.Times.{Readable}
 use Rattle.lxt_values.specs.TimesLaws.{chain-readable, latest-change-sound}
 use Rattle.lxt_tables.specs.Stage.{tablesOf}
 use Rattle.lxt_tables.specs.declared.Tables.{Tables}
-use Rattle.lxt_tables.proofs.TablesLaws.{Known, root-in, root-plain}
+use Rattle.lxt_tables.proofs.TablesLaws.{Known, tables-known, root-in, root-plain, has-real, real-order}
 use Rattle.lxt_reader.specs.Changing.{Followed, Chained, Looked}
 use Rattle.lxt_reader.specs.declared.changes.Chain.{Chain}
-use Rattle.lxt_reader.proofs.AskWays.{tables-known}
 use Rattle.lxt_values.specs.Value.{Readies}
 use Rattle.lxt_reader.specs.Reading.{startContent}
 
@@ -70,29 +69,6 @@ start-is s Bits width = refl
 start-is s Integer width = refl
 start-is s Real width = refl
 start-is s Text width = refl
-
--- ---- the byte order of reals, where a root is real
-
-any-root : (q : ℕ → Bool) (p : ℕ → Bool) (i k f : ℕ) → i ≤ f → f < i + k → p f ≡ true → q f ≡ true → any q (select p (range i k)) ≡ true
-unfolding any select range
-any-root q p i zero f a b h g = absurd (omega arith)
-any-root q p i (suc k) f a b h g =
-    let more : suc i ≤ f → any q (select p (range (suc i) k)) ≡ true = λ l. any-root q p (suc i) k f l (omega arith) h g in
-    elim (ℕ-discrete f i) [
-      | yes e ↦ (let hp : p i ≡ true = rw e at h in let hq : q i ≡ true = rw e at g in rw (hp, hq))
-      | no n ↦ on-test (p i) (λ e. rw e (on-test (q i) (λ d. rw d) (λ d. rw d (more (omega arith))))) (λ e. rw e (more (omega arith)))
-    ]
-
-module _ (s : List ℕ) (r : ℕ) (below : r < facilityCount s) (plain : isAlias s r ≡ false) (real-kind : ownFacts s r .kind ≡ Real) where
-  has-real : hasReal s ≡ true
-  unfolding hasReal rootsOf isReal
-  has-real = any-root (λ f. isReal (ownFacts s f .kind)) (λ f. not (isAlias s f)) 0 (facilityCount s) r (omega arith) (omega arith) (rw plain) (rw real-kind)
-
-  pub order-is : (t : Tables) → Known s t → t .order ≡ byteOrder s
-  order-is t k = k .order ∙ rw has-real
-
-  pub order-there : (t : Tables) → Known s t → Places (t .order)
-  order-there t k = rw (order-is t k) (order-places s has-real (k .passed .real-test))
 
 -- the code of the initial symbol is that of a symbol
 initial-small : (s : List ℕ) → initialOf s < 9
@@ -135,8 +111,10 @@ module _ (s : List ℕ) (f : ℕ) (c : Chain) (e : c .tables ≡ tablesOf s) (fi
         limit = k .end;
         within = omega (arith, k .end-high);
         short = k .long;
-        ordered = λ q. order-is s (rootOf s f) r p (rw (l .facts) at q) (c .tables) k;
-        places = λ q. order-there s (rootOf s f) r p (rw (l .facts) at q) (c .tables) k;
+        ordered = λ q. real-order s (rootOf s f) r p (rw (l .facts) at q) (c .tables) k;
+        places = λ q.
+            let real = rw (l .facts) at q in
+            rw (real-order s (rootOf s f) r p real (c .tables) k) (order-places s (has-real s (rootOf s f) r p real) (k .passed .real-test));
         enough = enough;
       }
 

@@ -1,5 +1,5 @@
 -- What a file keeps whose tables were read without a refusal, as facts that the crates above cite.
-use Prim.Native.Nat.{ℕ, _+_, _≤_, _<_}
+use Prim.Native.Nat.{ℕ, zero, suc, _+_, _≤_, _<_}
 use mathlib.Core.Path.{_≡_, refl, sym, _∙_}
 use mathlib.Core.Bool.{Bool, true, false, not, _&&_}
 use mathlib.Core.List.{List}
@@ -8,17 +8,16 @@ use lib.Dec.{ltb, leb, eqb, lit≤}
 use native.Mathlib.Omega.{arith}
 use native.Mathlib.Decide.{ℕ-discrete}
 use borrow.Author.Tests.{ne-eqb, not-true}
-use Rattle.lxt_format.specs.Limits.{longestFile, mostFacilities}
-use Rattle.lxt_format.specs.Limits.{widestFacility}
-use Rattle.lxt_format.specs.Basics.{if_then_else_, all, any}
-use Rattle.lxt_format.specs.BasicsLaws.{and-both, all-range}
+use Rattle.lxt_format.specs.Limits.{longestFile, mostFacilities, widestFacility}
+use Rattle.lxt_format.specs.Basics.{if_then_else_, range, all, any, select}
+use Rattle.lxt_format.specs.BasicsLaws.{on-test, and-both, all-range}
 use Rattle.lxt_format.specs.Sections.{sectionOf, endOf, changesFrom, facilityCount, timeCount, timescaleOf, initialOf}
 use Rattle.lxt_format.specs.Geometry.{isAlias, geometryAllowed, geometriesAllowed, rootOf, flagsOf, kindOfFlags, factsBy, msbOf, lsbOf, ownFacts, rootsOf, syncOf}
 use Rattle.lxt_format.specs.GeometryLaws.{root-below, root-no-alias}
 use Rattle.lxt_format.specs.Times.{firstTime, lastTime, positionDeltas, timeDeltas, positionsOf, timesOf, tableAllowed, timesAllowed}
-use Rattle.lxt_format.specs.Reals.{hasReal, byteOrder}
-use Rattle.lxt_format.specs.Judge.{tablesRefusal}
-use Rattle.lxt_format.specs.JudgeLaws.{Passed, passed, passed-located, passed-length, passed-count}
+use Rattle.lxt_format.specs.Reals.{isReal, hasReal, byteOrder}
+use Rattle.lxt_format.specs.Judge.{tablesRefusal, fileRefusal}
+use Rattle.lxt_format.specs.JudgeLaws.{Passed, passed, passed-located, passed-length, passed-count, accepted}
 use Rattle.lxt_format.specs.declared.Kind.{Kind}
 use Rattle.lxt_format.specs.declared.Kind.the-variants.{Bits, Integer, Real, Text}
 use Rattle.lxt_tables.specs.Stage.{Geometry, refusedTables, tablesOf}
@@ -152,3 +151,30 @@ module _ (s : List ℕ) (p : Passed s) where
   pub no-changes : timeCount s ≡ 0 → any (λ f. not (eqb (syncOf s f) 0)) (rootsOf s) ≡ false
   unfolding timesAllowed
   no-changes z = not-true (any (λ f. not (eqb (syncOf s f) 0)) (rootsOf s)) (rw z at (p .times))
+
+-- the tables of an accepted file
+pub tables-known : (s : List ℕ) (t : Tables) → t ≡ tablesOf s → fileRefusal s ≡ 0 → Known s t
+tables-known s t e h = known s t e (refusal-is s t e ∙ accepted s h .tables)
+
+-- ---- the byte order of reals, where a root is real
+
+-- a test that holds of one of those that are selected holds of some
+any-root : (q : ℕ → Bool) (p : ℕ → Bool) (i k f : ℕ) → i ≤ f → f < i + k → p f ≡ true → q f ≡ true → any q (select p (range i k)) ≡ true
+unfolding any select range
+any-root q p i zero f a b h g = absurd (omega arith)
+any-root q p i (suc k) f a b h g =
+    let more : suc i ≤ f → any q (select p (range (suc i) k)) ≡ true = λ l. any-root q p (suc i) k f l (omega arith) h g in
+    elim (ℕ-discrete f i) [
+      | yes e ↦ (let hp : p i ≡ true = rw e at h in let hq : q i ≡ true = rw e at g in rw (hp, hq))
+      | no n ↦ on-test (p i) (λ e. rw e (on-test (q i) (λ d. rw d) (λ d. rw d (more (omega arith))))) (λ e. rw e (more (omega arith)))
+    ]
+
+module _ (s : List ℕ) (r : ℕ) (below : r < facilityCount s) (plain : isAlias s r ≡ false) (real-kind : ownFacts s r .kind ≡ Real) where
+  -- the file has a real facility
+  pub has-real : hasReal s ≡ true
+  unfolding hasReal rootsOf isReal
+  has-real = any-root (λ f. isReal (ownFacts s f .kind)) (λ f. not (isAlias s f)) 0 (facilityCount s) r (omega arith) (omega arith) (rw plain) (rw real-kind)
+
+  -- so the tables have the order that its real test gives
+  pub real-order : (t : Tables) → Known s t → t .order ≡ byteOrder s
+  real-order t k = k .order ∙ rw has-real
