@@ -5,7 +5,7 @@ use native.Mathlib.Decide.{decLe, ℕ-discrete}
 use mathlib.Core.Path.{_≡_, refl, sym, ap, _∙_}
 use mathlib.Core.Bool.{true, false, not}
 use mathlib.Core.List.{List, [], _∷_, _++_, append-nil}
-use lib.ListN.{length, getD, set, drop, length-append}
+use lib.ListN.{length, getD, drop, length-append}
 use lib.Seq.{getD-set-same, getD-set-other}
 use lib.Dec.{leb, eqb}
 use borrow.Author.Tests.{leb-true, eqb-true, eq-eqb, ne-eqb, not-true, not-false}
@@ -16,7 +16,7 @@ use Rattle.lxt_format.specs.Columns.{onto}
 use Rattle.lxt_format.specs.Sections.{timeCount, endOf}
 use Rattle.lxt_format.specs.Geometry.{rootsOf, syncOf}
 use Rattle.lxt_format.specs.Times.{tableAllowed, timesAllowed, timeOf}
-use Rattle.lxt_format.specs.Changes.{dataAt, previousOf}
+use Rattle.lxt_format.specs.Changes.{previousOf}
 use Rattle.lxt_format.specs.ChangesLaws.{previous-lt, chain-none}
 use Rattle.lxt_format.specs.Judge.{changesOf, allChanges, endAt}
 use Rattle.lxt_format.specs.JudgeLaws.{accepted}
@@ -33,10 +33,9 @@ use Rattle.lxt_chains.proofs.Step.{high-ge, top-lt, length-left}
 use Rattle.lxt_chains.proofs.Bridge.{all-roots}
 use Rattle.lxt_chains.proofs.Check17.{each-step}
 use Rattle.lxt_chains.proofs.Accepted.{all-allowed, allowed-fits, apart-stacked}
-use Rattle.lxt_chains.specs.Reading.{Ready}
+use Rattle.lxt_chains.specs.Reading.{Ready, Readable}
 use Rattle.lxt_chains.specs.Tree.{Tree, Blank, Holding}
 use Rattle.lxt_format.specs.declared.Pair.{Pair}
-use Rattle.lxt_chains.proofs.NextLaws.{allowed-inside, allowed-previous}
 use Rattle.lxt_chains.proofs.ApartLaws.{pending-roots, root-changes}
 use Rattle.lxt_values.specs.Times as Ti
 use Rattle.lxt_values.specs.Entries.{EntryAt, Latest}
@@ -164,69 +163,76 @@ timed-next s os e h l =
     let low = step-low s os (top (step s os)) h in
     record { latest = λ k. record { here = l .here; later = λ j a b. omega (arith, l .later j a b) } }
 
+-- a step leaves the other pending offsets
+step-other : (s os : List ℕ) (i : ℕ) → (i ≡ top os → ⊥) → getD (step s os) i 0 ≡ getD os i 0
+unfolding step
+step-other s os i n = getD-set-other os (top os) i (previousOf s (high os)) 0 n
+
 -- ---- one step
 
-module _ (s : List ℕ) (t : Tables) (w : Opened s t) (m : ℕ) (nodes : List ℕ) (p : Waiting s t m nodes) (f o : ℕ) (ef : f ≡ top (drop m nodes)) (eo : o ≡ high (drop m nodes)) where
-  pub none-left : o ≡ 0 → (out : List ℕ) (e : Entry) → Timed s (drop m nodes) e
-      → ((0 ≡ length (nextLine s (drop m nodes))) × (out ≡ onto (nextLine s (drop m nodes)) out))
-      × (Waiting s t m nodes × ((drop m nodes ≡ offsetsAfter s 1 (drop m nodes)) × Timed s (drop m nodes) e))
-  none-left z out e v =
-      let h : high (drop m nodes) ≡ 0 = sym eo ∙ z in
-      ((rw (quiet-line s (drop m nodes) h), rw (quiet-line s (drop m nodes) h)), (p, (sym (quiet-after s (drop m nodes) h), v)))
+module _ (s : List ℕ) (t : Tables) (w : Opened s t) (m : ℕ) (nodes : List ℕ) (p : Waiting s t m nodes) where
+  -- T lies in the file
+  ending : endOf s ≤ length s
+  ending = let k = opened-known s t w in omega (arith, k .end, k .end-high)
 
-  module _ (some : o ≡ 0 → ⊥) where
-    positive : 0 < high (drop m nodes)
-    positive = omega arith
+  -- every change that is left can be read
+  pub take-asks : Tree m nodes × Readable s (drop m nodes)
+  take-asks = (p .tree, record { short = opened-known s t w .long; inside = ending; each = p .each })
 
-    pub here : Allowed s (pairOf f o)
-    here = rw (ef, eo) (each-step s (drop m nodes) positive (p .each) .0)
-
-    pub number-below : f < t .facilities
-    number-below = elim (decLe (t .facilities) f) [
-      | yes q ↦ let z = p .past (top (drop m nodes)) (rw ef at q) in absurd (omega arith)
-      | no q ↦ omega arith
-    ]
-
-    pub number-small : f < 4294967296
-    number-small = let b = number-below in let k = opened-known s t w .few in omega arith
-
-    ending : endOf s ≤ length s
-    ending = let k = opened-known s t w in omega (arith, k .end, k .end-high)
-
-    pub change-inside : (o < length s) × (dataAt s o ≤ length s)
-    change-inside = allowed-inside s ending (opened-known s t w .long) f o here
-
-    pub previous-small : (q : ℕ) → q ≡ previousOf s o → q < 4294967296
-    previous-small q eq = let a = allowed-previous s ending (opened-known s t w .long) f o here q eq in omega arith
-
-    pub put-asks : Tree m nodes × (f < m)
-    put-asks = let b = number-below in let r = p .room in (p .tree, omega arith)
-
-    pub down-asks : (e : Entry) → Timed s (drop m nodes) e → Ti.Times s (t .times) (t .«time_count») × Latest s o (e .number) (e .position) (e .time)
-    down-asks e v = (times-there s t w, rw eo (v .latest positive))
-
-    pub time-small : AreBytes s → (x : ℕ) → x ≡ timeOf s o → x < 4294967296
-    time-small b x ex = let f = time-fits s (t .times) (t .«time_count») (times-there s t w) b o in omega arith
-
-    pub stepped : (e : Entry) → Latest s o (e .number) (e .position) (e .time) → (q : ℕ) → q ≡ previousOf s o → (nodes′ : List ℕ) → Tree m nodes′ → drop m nodes′ ≡ set (drop m nodes) f q
-        → (r : ℕ) (out out′ : List ℕ) → r ≡ length (changeLine s (pairOf f o)) → out′ ≡ onto (changeLine s (pairOf f o)) out
-        → ((r ≡ length (nextLine s (drop m nodes))) × (out′ ≡ onto (nextLine s (drop m nodes)) out))
+  module _ (f o : ℕ) (ef : f ≡ top (drop m nodes)) (eo : o ≡ high (drop m nodes)) where
+    -- no change is left, and none is taken
+    pub none-left : o ≡ 0 → (nodes′ : List ℕ) → Tree m nodes′ → drop m nodes′ ≡ offsetsAfter s 1 (drop m nodes) → (out : List ℕ) (e : Entry) → Timed s (drop m nodes) e
+        → ((0 ≡ length (nextLine s (drop m nodes))) × (out ≡ onto (nextLine s (drop m nodes)) out))
         × (Waiting s t m nodes′ × ((drop m nodes′ ≡ offsetsAfter s 1 (drop m nodes)) × Timed s (drop m nodes′) e))
-    stepped entry latest q eq nodes′ tree en r out out′ er eb =
-        let e : drop m nodes′ ≡ step s (drop m nodes) = en ∙ (unfold step in rw (ef, eq, eo)) in
-        let line : nextLine s (drop m nodes) ≡ changeLine s (pairOf f o) = rw (ef, eo) (next-line s (drop m nodes) positive) in
-        let b = number-below in (
-          (rw line er, rw line eb),
-          (
-            record {
-              tree = tree;
-              room = p .room;
-              past = λ i k. rw en (getD-set-other (drop m nodes) f i q 0 (λ z. omega arith) ∙ p .past i k);
-              each = rw e (each-step s (drop m nodes) positive (p .each) .1);
-            },
-            (e ∙ sym (next-after s (drop m nodes) positive), rw e (timed-next s (drop m nodes) entry positive (rw eo at latest))),
-          ),
-        )
+    none-left z nodes′ tree en out e v =
+        let h : high (drop m nodes) ≡ 0 = sym eo ∙ z in
+        let same : drop m nodes′ ≡ drop m nodes = en ∙ quiet-after s (drop m nodes) h in
+        let still : Waiting s t m nodes′ = record { tree = tree; room = p .room; past = λ i k. rw same (p .past i k); each = rw same (p .each) } in
+        ((rw (quiet-line s (drop m nodes) h), rw (quiet-line s (drop m nodes) h)), (still, (en, rw same v)))
+
+    module _ (some : o ≡ 0 → ⊥) where
+      positive : 0 < high (drop m nodes)
+      positive = omega arith
+
+      -- the change that was taken is one of the file's
+      pub here : Allowed s (pairOf f o)
+      here = rw (ef, eo) (each-step s (drop m nodes) positive (p .each) .0)
+
+      pub number-below : f < t .facilities
+      number-below = elim (decLe (t .facilities) f) [
+        | yes q ↦ let z = p .past (top (drop m nodes)) (rw ef at q) in absurd (omega arith)
+        | no q ↦ omega arith
+      ]
+
+      pub number-small : f < 4294967296
+      number-small = let b = number-below in let k = opened-known s t w .few in omega arith
+
+      pub down-asks : (e : Entry) → Timed s (drop m nodes) e → Ti.Times s (t .times) (t .«time_count») × Latest s o (e .number) (e .position) (e .time)
+      down-asks e v = (times-there s t w, rw eo (v .latest positive))
+
+      pub time-small : AreBytes s → (x : ℕ) → x ≡ timeOf s o → x < 4294967296
+      time-small b x ex = let f = time-fits s (t .times) (t .«time_count») (times-there s t w) b o in omega arith
+
+      -- its line is put, and the others are left
+      pub stepped : (nodes′ : List ℕ) → Tree m nodes′ → drop m nodes′ ≡ offsetsAfter s 1 (drop m nodes) → (e : Entry) → Latest s o (e .number) (e .position) (e .time)
+          → (r : ℕ) (out out′ : List ℕ) → r ≡ length (changeLine s (pairOf f o)) → out′ ≡ onto (changeLine s (pairOf f o)) out
+          → ((r ≡ length (nextLine s (drop m nodes))) × (out′ ≡ onto (nextLine s (drop m nodes)) out))
+          × (Waiting s t m nodes′ × ((drop m nodes′ ≡ offsetsAfter s 1 (drop m nodes)) × Timed s (drop m nodes′) e))
+      stepped nodes′ tree en entry latest r out out′ er eb =
+          let e : drop m nodes′ ≡ step s (drop m nodes) = en ∙ next-after s (drop m nodes) positive in
+          let line : nextLine s (drop m nodes) ≡ changeLine s (pairOf f o) = rw (ef, eo) (next-line s (drop m nodes) positive) in
+          let b : top (drop m nodes) < t .facilities = rw ef at number-below in (
+            (rw line er, rw line eb),
+            (
+              record {
+                tree = tree;
+                room = p .room;
+                past = λ i k. rw e (step-other s (drop m nodes) i (λ z. omega arith) ∙ p .past i k);
+                each = rw e (each-step s (drop m nodes) positive (p .each) .1);
+              },
+              (en, rw e (timed-next s (drop m nodes) entry positive (rw eo at latest))),
+            ),
+          )
 
 -- ---- a line fits the buffer that holds it
 

@@ -9,9 +9,9 @@ ghost use Rattle.lxt_print.specs.Placing.{Opened};
 ghost use Rattle.lxt_print.specs.Stepping.{Waiting, left, allLeft, Last, Timed, nextLine};
 use crate::lines;
 use lxt_chains::apart;
+use lxt_chains::next::take_highest;
 use lxt_chains::tree;
 use lxt_chains::whole;
-use lxt_changes::delta;
 use lxt_tables::Tables;
 use lxt_values::entries;
 use lxt_values::entries::Entry;
@@ -62,9 +62,8 @@ pub fn next(
     ensures { λ r. ⌜ (r .size ≡ length (nextLine (now (file .entry)) (drop m (now (nodes .entry))))) × (now (out .exit) ≡ onto (nextLine (now (file .entry)) (drop m (now (nodes .entry)))) (now (out .entry))) ⌝ }
     ensures { λ r. ⌜ Waiting (now (file .entry)) t m (now (nodes .exit)) × ((drop m (now (nodes .exit)) ≡ offsetsAfter (now (file .entry)) 1 (drop m (now (nodes .entry)))) × Timed (now (file .entry)) (drop m (now (nodes .exit))) (r .entry)) ⌝ }
 {
-    let top = tree::highest(nodes, m);
-    let number = top.number;
-    let o = top.offset;
+    let taken = take_highest(file, nodes, m);
+    let o = taken.offset;
     if o == 0 {
         return Line {
             size: 0,
@@ -72,9 +71,7 @@ pub fn next(
         };
     }
     let e = entries::down(file, t.times as usize, t.time_count, entry, o as usize);
-    let size = lines::change(file, t, number as u32, o, e.time as u32, out);
-    let previous = delta::previous(file, o as usize) as u32;
-    tree::put(nodes, m, number, previous);
+    let size = lines::change(file, t, taken.number as u32, o, e.time as u32, out);
     Line {
         size: size,
         entry: e,

@@ -1,17 +1,23 @@
 use native.Mathlib.Omega.{arith}
-use Rattle.lxt_print.proofs.StepLaws.{none-left, down-asks, time-small, here, number-below, number-small, change-inside, previous-small, put-asks, stepped}
+use Rattle.lxt_format.specs.BytesLaws.{AreBytes}
+use Rattle.lxt_print.proofs.StepLaws.{take-asks, none-left, down-asks, time-small, here, number-below, number-small, stepped}
 use borrow.Author.Needs.{needs}
 use Rattle.lxt_print.proofs.changes.next.Statement.{statement}
 use Rattle.lxt_print.proofs.changes.next.Tie as tie
 
-highest-requires : tie.Need-highest-requires
-highest-requires c κs = search needs
+take-highest-requires : tie.Need-take-highest-requires
+take-highest-requires c κs = let pre = c .before .before .before .before .pre in take-asks _ _ (pre .0) _ _ (pre .1 .0)
 
 same-length : tie.Need-same-length
 same-length c = search needs
 
 returns : tie.Need-returns
-returns c = none-left _ _ (c .before .before .before .before .before .before .pre .0) _ _ (c .before .before .before .before .before .before .pre .1 .0) _ _ (c .before .highest .ensures .0) (c .before .highest .ensures .1) (c .if1 .taken) _ _ (c .before .before .before .before .before .before .pre .1 .1 .0)
+returns c =
+    let tested = c in
+    let took = tested .before .before .before in
+    let pre = took .before .before .before .before .before .pre in
+    let taken = took .take-highest .ensures in
+    none-left _ _ (pre .0) _ _ (pre .1 .0) _ _ (taken .0 .0) (taken .0 .1 .0) (tested .if1 .taken) _ (taken .1 .0) (taken .1 .1) _ _ (pre .1 .1 .0)
 
 cast-down : tie.Need-cast-down
 cast-down c = search needs
@@ -20,28 +26,39 @@ cast-down-2 : tie.Need-cast-down-2
 cast-down-2 c = search needs
 
 down-requires : tie.Need-down-requires
-down-requires c κs = down-asks _ _ (c .before .before .before .before .before .before .before .pre .0) _ _ (c .before .before .before .before .before .before .before .pre .1 .0) _ _ (c .before .before .highest .ensures .0) (c .before .before .highest .ensures .1) (c .before .if1 .left) _ (c .before .before .before .before .before .before .before .pre .1 .1 .0)
+down-requires c κs =
+    let tested = c .before in
+    let took = tested .before .before .before in
+    let pre = took .before .before .before .before .before .pre in
+    let taken = took .take-highest .ensures in
+    down-asks _ _ (pre .0) _ _ (pre .1 .0) _ _ (taken .0 .0) (taken .0 .1 .0) (tested .if1 .left) _ (pre .1 .1 .0)
 
 cast-change : tie.Need-cast-change
-cast-change c = omega (arith, number-small _ _ (c .before .before .before .before .before .before .before .before .pre .0) _ _ (c .before .before .before .before .before .before .before .before .pre .1 .0) _ _ (c .before .before .before .highest .ensures .0) (c .before .before .before .highest .ensures .1) (c .before .before .if1 .left))
+cast-change c =
+    let tested = c .before .before .before in
+    let took = tested .before .before .before in
+    let pre = took .before .before .before .before .before .pre in
+    let taken = took .take-highest .ensures in
+    omega (arith, number-small _ _ (pre .0) _ _ (pre .1 .0) _ _ (taken .0 .0) (taken .0 .1 .0) (tested .if1 .left))
 
 cast-change-2 : tie.Need-cast-change-2
-cast-change-2 c = omega (arith, time-small _ _ (c .before .before .before .before .before .before .before .before .before .pre .0) _ _ (c .before .before .before .before .before .before .before .before .before .pre .1 .0) _ _ (c .before .before .before .before .highest .ensures .0) (c .before .before .before .before .highest .ensures .1) (c .before .before .before .if1 .left) (λ i. omega (arith, c .before .before .before .before .before .before .before .before .shared-slice-known .given i)) _ (c .before .down .ensures .1))
+cast-change-2 c =
+    let tested = c .before .before .before .before in
+    let took = tested .before .before .before in
+    let pre = took .before .before .before .before .before .pre in
+    let taken = took .take-highest .ensures in
+    let bytes : AreBytes (took .before .before .before .before .before .args .file .now) = λ i. omega (arith, took .before .before .before .before .shared-slice-known .given i) in
+    omega (arith, time-small _ _ (pre .0) _ _ (pre .1 .0) _ _ (taken .0 .0) (taken .0 .1 .0) (tested .if1 .left) bytes _ (c .before .before .down .ensures .1))
 
 change-requires : tie.Need-change-requires
-change-requires c κs = (c .before .before .before .before .before .before .before .before .before .before .pre .0, (number-below _ _ (c .before .before .before .before .before .before .before .before .before .before .pre .0) _ _ (c .before .before .before .before .before .before .before .before .before .before .pre .1 .0) _ _ (c .before .before .before .before .before .highest .ensures .0) (c .before .before .before .before .before .highest .ensures .1) (c .before .before .before .before .if1 .left), (here _ _ (c .before .before .before .before .before .before .before .before .before .before .pre .0) _ _ (c .before .before .before .before .before .before .before .before .before .before .pre .1 .0) _ _ (c .before .before .before .before .before .highest .ensures .0) (c .before .before .before .before .before .highest .ensures .1) (c .before .before .before .before .if1 .left), (c .before .before .down .ensures .1, c .before .before .before .before .before .before .before .before .before .before .pre .1 .1 .1))))
-
-cast-previous : tie.Need-cast-previous
-cast-previous c = search needs
-
-previous-requires : tie.Need-previous-requires
-previous-requires c κs = change-inside _ _ (c .before .before .before .before .before .before .before .before .before .before .before .before .before .pre .0) _ _ (c .before .before .before .before .before .before .before .before .before .before .before .before .before .pre .1 .0) _ _ (c .before .before .before .before .before .before .before .before .highest .ensures .0) (c .before .before .before .before .before .before .before .before .highest .ensures .1) (c .before .before .before .before .before .before .before .if1 .left)
-
-cast-previous-2 : tie.Need-cast-previous-2
-cast-previous-2 c = omega (arith, previous-small _ _ (c .before .before .before .before .before .before .before .before .before .before .before .before .before .before .pre .0) _ _ (c .before .before .before .before .before .before .before .before .before .before .before .before .before .before .pre .1 .0) _ _ (c .before .before .before .before .before .before .before .before .before .highest .ensures .0) (c .before .before .before .before .before .before .before .before .before .highest .ensures .1) (c .before .before .before .before .before .before .before .before .if1 .left) _ (c .previous .ensures))
-
-put-requires : tie.Need-put-requires
-put-requires c κs = put-asks _ _ (c .before .before .before .before .before .before .before .before .before .before .before .before .before .before .before .pre .0) _ _ (c .before .before .before .before .before .before .before .before .before .before .before .before .before .before .before .pre .1 .0) _ _ (c .before .before .before .before .before .before .before .before .before .before .highest .ensures .0) (c .before .before .before .before .before .before .before .before .before .before .highest .ensures .1) (c .before .before .before .before .before .before .before .before .before .if1 .left)
+change-requires c κs =
+    let tested = c .before .before .before .before .before in
+    let took = tested .before .before .before in
+    let pre = took .before .before .before .before .before .pre in
+    let taken = took .take-highest .ensures in
+    let below = number-below _ _ (pre .0) _ _ (pre .1 .0) _ _ (taken .0 .0) (taken .0 .1 .0) (tested .if1 .left) in
+    let allowed = here _ _ (pre .0) _ _ (pre .1 .0) _ _ (taken .0 .0) (taken .0 .1 .0) (tested .if1 .left) in
+    (pre .0, (below, (allowed, (c .before .before .before .down .ensures .1, pre .1 .1 .1))))
 
 same-length-2 : tie.Need-same-length-2
 same-length-2 c = search needs
@@ -50,13 +67,20 @@ same-length-3 : tie.Need-same-length-3
 same-length-3 c = search needs
 
 returns-2 : tie.Need-returns-2
-returns-2 c = stepped _ _ (c .before .before .before .before .before .before .before .before .before .before .before .before .before .before .before .before .before .before .pre .0) _ _ (c .before .before .before .before .before .before .before .before .before .before .before .before .before .before .before .before .before .before .pre .1 .0) _ _ (c .before .before .before .before .before .before .before .before .before .before .before .before .before .highest .ensures .0) (c .before .before .before .before .before .before .before .before .before .before .before .before .before .highest .ensures .1) (c .before .before .before .before .before .before .before .before .before .before .before .before .if1 .left) _ (c .before .before .before .before .before .before .before .before .before .before .down .ensures .0) _ (c .before .before .before .before .previous .ensures) _ (c .before .before .put .ensures .0) (c .before .before .put .ensures .1) _ _ _ (c .before .before .before .before .before .before .before .change .ensures .0) (c .before .before .before .before .before .before .before .change .ensures .1)
+returns-2 c =
+    let tested = c .before .before .before .before .before .before .before .before in
+    let took = tested .before .before .before in
+    let pre = took .before .before .before .before .before .pre in
+    let taken = took .take-highest .ensures in
+    let put = c .before .before .change .ensures in
+    let down = c .before .before .before .before .before .before .down .ensures in
+    stepped _ _ (pre .0) _ _ (pre .1 .0) _ _ (taken .0 .0) (taken .0 .1 .0) (tested .if1 .left) _ (taken .1 .0) (taken .1 .1) _ (down .0) _ _ _ (put .0) (put .1)
 
 pub next-spec : {M : Type 1} → statement M
 next-spec =
     tie.close
     (tie.spec
-    highest-requires
+    take-highest-requires
     same-length
     returns
     cast-down
@@ -65,10 +89,6 @@ next-spec =
     cast-change
     cast-change-2
     change-requires
-    cast-previous
-    previous-requires
-    cast-previous-2
-    put-requires
     same-length-2
     same-length-3
     returns-2)
