@@ -16,7 +16,7 @@ use Rattle.lxt_format.specs.Bytes.{byteAt, toZero}
 use Rattle.lxt_format.specs.BasicsLaws.{neither, kept, stops, and-both}
 use Rattle.lxt_format.specs.ChangesLaws.{previous-lt, faults-none, faults-next, faults-here, sound}
 use Rattle.lxt_format.specs.BytesLaws.{at-zero, zero-bounds}
-use Rattle.lxt_format.specs.Changes.{signal, commandOf, deltaSize, dataAt, previousOf, commandAllowed, symbolSize, packedSize, symbolsAllowed, dataSize, dataAllowed, changeEnd, previousAllowed, faultAt, chainFault}
+use Rattle.lxt_format.specs.Changes.{signal, commandOf, dataAt, previousOf, commandAllowed, symbolSize, packedSize, symbolsAllowed, dataSize, dataAllowed, changeEnd, previousAllowed, faultAt, chainFault}
 use Rattle.lxt_format.specs.declared.Kind.{Kind}
 use Rattle.lxt_format.specs.declared.Kind.the-variants.{Bits, Integer, Real, Text}
 use Rattle.lxt_changes.specs.Windows.{Known, Answered, Data}

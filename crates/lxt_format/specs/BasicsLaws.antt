@@ -42,12 +42,6 @@ or-none false b h = (refl, h)
 
 -- ---- refusals
 
-pub unless-kept : (k : ℕ) (b : Bool) → b ≡ true → (k unless b) ≡ 0
-unless-kept k b e = rw e
-
-pub unless-broken : (k : ℕ) (b : Bool) → b ≡ false → (k unless b) ≡ k
-unless-broken k b e = rw e
-
 -- where a refusal with a number is not given, its rule is kept
 pub kept : (k : ℕ) (b : Bool) → 0 < k → (k unless b) ≡ 0 → b ≡ true
 kept k true p h = refl

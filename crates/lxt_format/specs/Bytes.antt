@@ -1,10 +1,10 @@
+use Rattle.lxt_format.specs.Basics.{if_then_else_}
 -- Numbers in a file. A file is a list of bytes; past its end a byte counts as 0, so that every definition is total.
 use Prim.Native.Nat.{ℕ, zero, suc, _+_, _*_, _-_, _^_}
 use mathlib.Core.List.{List, [], _∷_}
 use lib.ListN.{getD}
 use lib.IntN.{ℤ, pos, negsuc}
 use lib.Dec.{ltb, eqb}
-use Rattle.lxt_format.specs.Basics.{if_then_else_}
 
 abbrev pub byteAt : List ℕ → ℕ → ℕ
 byteAt s o = getD s o 0

@@ -39,9 +39,6 @@ u32-bytes s o = number-4 s o
 abbrev pub AreBytes : List ℕ → Type 0
 AreBytes s = (i : ℕ) → byteAt s i < 256
 
-pub u16-lt : (s : List ℕ) → AreBytes s → (o : ℕ) → u16At s o < 65536
-u16-lt s bytes o = omega (arith, u16-bytes s o, bytes o, bytes (o + 1))
-
 pub u32-lt : (s : List ℕ) → AreBytes s → (o : ℕ) → u32At s o < 4294967296
 u32-lt s bytes o = omega (arith, u32-bytes s o, bytes o, bytes (o + 1), bytes (o + 2), bytes (o + 3))
 
@@ -61,11 +58,6 @@ getD-u32s (suc k) s o (suc i) d h =
     getD-u32s k s (o + 4) i d (omega arith) ∙ rw e
 
 -- ---- up to a zero
-
-pub zero-here : (l : List ℕ) → 0 < length l → getD l 0 0 ≡ 0 → toZero l ≡ 0
-unfolding toZero
-zero-here [] h e = refl
-zero-here (b ∷ l) h e = rw e
 
 pub zero-later : (b : ℕ) (l : List ℕ) → (b ≡ 0 → ⊥) → toZero (b ∷ l) ≡ suc (toZero l)
 unfolding toZero

@@ -52,9 +52,6 @@ module _ (s : List ℕ) where
   unfolding rootOf
   root-self f h e = root-some (facilityCount s) f (omega arith) h e
 
-  pub root-root : (f : ℕ) → rootOf s f < facilityCount s → rootOf s (rootOf s f) ≡ rootOf s f
-  root-root f h = root-self (rootOf s f) h (root-no-alias f h)
-
   -- where refusal 12 is not given, every facility has a root
   pub root-below : aliasesAllowed s ≡ true → (f : ℕ) → f < facilityCount s → rootOf s f < facilityCount s
   unfolding aliasesAllowed

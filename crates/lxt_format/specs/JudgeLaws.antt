@@ -11,10 +11,10 @@ use borrow.Author.Tests.{leb-true, not-true}
 use Rattle.lxt_format.specs.Limits.{shortestFile, longestFile, mostFacilities}
 use Rattle.lxt_format.specs.Basics.{range, select, firstFault}
 use Rattle.lxt_format.specs.BasicsLaws.{on-test, and-both, kept, neither}
-use Rattle.lxt_format.specs.Sections.{lengthAllowed, startsRight, endsRight, listingOf, nothingCompressed, present, sectionsPresent, bodiesInside, countAllowed, facilityCount, changesFrom, endOf}
+use Rattle.lxt_format.specs.Sections.{lengthAllowed, startsRight, endsRight, listingOf, nothingCompressed, present, sectionsPresent, bodiesInside, countAllowed, facilityCount}
 use Rattle.lxt_format.specs.SectionsLaws.{Located, located}
 use Rattle.lxt_format.specs.Names.{namesAllowed}
-use Rattle.lxt_format.specs.Geometry.{isAlias, geometriesAllowed, aliasesAllowed, rootsOf, ownFacts, syncOf}
+use Rattle.lxt_format.specs.Geometry.{isAlias, geometriesAllowed, aliasesAllowed, rootsOf, syncOf}
 use Rattle.lxt_format.specs.Times.{timesAllowed}
 use Rattle.lxt_format.specs.Reals.{realTestAllowed}
 use Rattle.lxt_format.specs.Changes.{previousOf, chainFault}

@@ -10,7 +10,7 @@ use Rattle.lxt_format.specs.BasicsLaws.{stops, neither, kept, answer-given, ans
 use Rattle.lxt_format.specs.Sections.{facilityCount}
 use Rattle.lxt_format.specs.Geometry.{isAlias, geometryAllowed, rootOf, ownFacts, factsOf}
 use Rattle.lxt_format.specs.Judge.{fileRefusal}
-use Rattle.lxt_format.specs.JudgeLaws.{accepted, passed}
+use Rattle.lxt_format.specs.JudgeLaws.{passed}
 use Rattle.lxt_format.specs.Questions.{facilityRefusal, factsAsked, rootAsked}
 use Rattle.lxt_format.specs.declared.Facts.{Facts}
 use Rattle.lxt_tables.specs.Stage.{Geometry, tablesOf}

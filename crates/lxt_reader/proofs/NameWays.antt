@@ -52,9 +52,6 @@ module _ (s : List ℕ) (f room : ℕ) (a : Asked) (w : Answers s f a) where
     pub head-there : (a .tables .names + 4) + 4 ≤ length s
     head-there = let k = all-known s f a w h in omega (arith, k .names-high, k .end-high)
 
-    pub head-adds : a .tables .names + 8 < 18446744073709551616
-    head-adds = let k = all-known s f a w h in omega (arith, k .names-high, k .end-high, k .long)
-
     pub name-found : 1023 ≤ room → (m : ℕ) → m ≡ u32At s (a .tables .names + 4)
         → Named s f room (record { refusal = 0; at = a .tables .names + 8; end = a .tables .end; facilities = a .tables .facilities; memory = m })
     unfolding nameRefusal

@@ -1,20 +1,18 @@
 -- A law for each way out of the questions on values.
-use Prim.Native.Nat.{ℕ, zero, suc, _+_, _≤_, _<_}
+use Prim.Native.Nat.{ℕ, _+_, _≤_, _<_}
 use mathlib.Core.Path.{_≡_, refl, sym, _∙_}
-use mathlib.Core.Bool.{Bool, true, false, not, _&&_}
+use mathlib.Core.Bool.{_&&_}
 use mathlib.Core.List.{List, [], _++_}
 use lib.ListN.{length, drop, replicate, length-replicate}
 use lib.Dec.{ltb, leb, eqb, lit<}
 use native.Mathlib.Omega.{arith}
-use native.Mathlib.Decide.{ℕ-discrete}
 use borrow.Author.Tests.{ne-eqb, le-leb, lt-leb, leb-true, ltb-true, eqb-false}
-use Rattle.lxt_format.specs.Basics.{_unless_, Answer, given, refused, range, any, select}
+use Rattle.lxt_format.specs.Basics.{_unless_, Answer, given, refused, any}
 use Rattle.lxt_format.specs.BasicsLaws.{on-test, and-both, neither, kept, stops}
 use Rattle.lxt_format.specs.Bytes.{byteAt}
 use Rattle.lxt_format.specs.Sections.{sectionOf, present, facilityCount, initialOf}
-use Rattle.lxt_format.specs.Geometry.{isAlias, rootOf, rootsOf, ownFacts, factsOf}
+use Rattle.lxt_format.specs.Geometry.{rootOf, factsOf}
 use Rattle.lxt_format.specs.Times.{timeOf}
-use Rattle.lxt_format.specs.Reals.{byteOrder, isReal, hasReal}
 use Rattle.lxt_format.specs.Reals as R
 use Rattle.lxt_format.specs.Changes.{chainOf}
 use Rattle.lxt_format.specs.ChangesLaws.{Sound}
@@ -30,7 +28,6 @@ use Rattle.lxt_values.specs.Times as Ti
 use Rattle.lxt_values.specs.Times.{Readable}
 use Rattle.lxt_values.specs.TimesLaws.{chain-readable, latest-change-sound}
 use Rattle.lxt_tables.specs.Stage.{tablesOf}
-use Rattle.lxt_tables.specs.declared.Tables.{Tables}
 use Rattle.lxt_tables.proofs.TablesLaws.{Known, tables-known, root-in, root-plain, has-real, real-order}
 use Rattle.lxt_reader.specs.Changing.{Followed, Chained, Looked}
 use Rattle.lxt_reader.specs.declared.changes.Chain.{Chain}

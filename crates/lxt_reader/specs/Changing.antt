@@ -1,12 +1,11 @@
 -- What is known of a chain or a change that was asked about.
-use Prim.Native.Nat.{ℕ, _+_, _≤_, _<_}
+use Prim.Native.Nat.{ℕ}
 use mathlib.Core.Path.{_≡_}
 use mathlib.Core.List.{List}
-use lib.ListN.{length}
 use Rattle.lxt_format.specs.Geometry.{rootOf, syncOf, factsOf}
 use Rattle.lxt_format.specs.ChangesLaws.{Sound}
 use Rattle.lxt_format.specs.Judge.{signalBy, fileRefusal, faultFrom}
-use Rattle.lxt_format.specs.Questions.{facilityRefusal, changeRefusal, chainAsked}
+use Rattle.lxt_format.specs.Questions.{facilityRefusal, changeRefusal}
 use Rattle.lxt_tables.specs.Stage.{tablesOf}
 use Rattle.lxt_reader.specs.declared.changes.Chain.{Chain}
 

@@ -4,14 +4,13 @@ use mathlib.Core.Path.{_≡_, refl, sym, _∙_, ap}
 use mathlib.Core.Bool.{Bool, true, false, _&&_, and-false}
 use mathlib.Core.List.{List, [], _++_}
 use mathlib.Core.Option.{Option, none, some}
-use lib.ListN.{length, take, drop, getD, length-append}
-use lib.Seq.{slice, slice-cons, slice-empty, length-slice, length-take-le, drop-drop, getD-drop, getD-take}
+use lib.ListN.{length, take, drop, length-append}
+use lib.Seq.{slice, length-slice, length-take-le, drop-drop, getD-drop, getD-take}
 use lib.Dec.{ltb, leb, leb·zero}
 use native.Mathlib.Omega.{arith}
 use native.Mathlib.Decide.{decLe}
 use native.Mathlib.Nat.{lt-of-not-le, add-zero}
-use native.Mathlib.Numerals.{add-one}
-use borrow.Author.Tests.{eq-eqb, ne-eqb, lt-ltb, le-ltb, le-leb, lt-leb, leb-true, ltb-true}
+use borrow.Author.Tests.{lt-ltb, le-ltb, le-leb, lt-leb, leb-true, ltb-true}
 use Rattle.lxt_format.specs.Limits.{longestName}
 use Rattle.lxt_format.specs.Limits.{longestName}
 use Rattle.lxt_format.specs.BasicsLaws.{and-both}

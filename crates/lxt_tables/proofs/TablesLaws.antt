@@ -1,26 +1,26 @@
 -- What a file keeps whose tables were read without a refusal, as facts that the crates above cite.
 use Prim.Native.Nat.{ℕ, zero, suc, _+_, _≤_, _<_}
 use mathlib.Core.Path.{_≡_, refl, sym, _∙_}
-use mathlib.Core.Bool.{Bool, true, false, not, _&&_}
+use mathlib.Core.Bool.{Bool, true, false, not}
 use mathlib.Core.List.{List}
-use lib.ListN.{length, getD, drop, replicate}
-use lib.Dec.{ltb, leb, eqb, lit≤}
+use lib.ListN.{length, replicate}
+use lib.Dec.{eqb, lit≤}
 use native.Mathlib.Omega.{arith}
 use native.Mathlib.Decide.{ℕ-discrete}
 use borrow.Author.Tests.{ne-eqb, not-true}
 use Rattle.lxt_format.specs.Limits.{longestFile, mostFacilities, widestFacility}
-use Rattle.lxt_format.specs.Basics.{if_then_else_, range, all, any, select}
-use Rattle.lxt_format.specs.BasicsLaws.{on-test, and-both, all-range}
+use Rattle.lxt_format.specs.Basics.{if_then_else_, range, any, select}
+use Rattle.lxt_format.specs.BasicsLaws.{on-test, all-range}
 use Rattle.lxt_format.specs.Sections.{sectionOf, endOf, changesFrom, facilityCount, timeCount, timescaleOf, initialOf}
 use Rattle.lxt_format.specs.Geometry.{isAlias, geometryAllowed, geometriesAllowed, rootOf, flagsOf, kindOfFlags, factsBy, msbOf, lsbOf, ownFacts, rootsOf, syncOf}
 use Rattle.lxt_format.specs.GeometryLaws.{root-below, root-no-alias}
-use Rattle.lxt_format.specs.Times.{firstTime, lastTime, positionDeltas, timeDeltas, positionsOf, timesOf, tableAllowed, timesAllowed}
+use Rattle.lxt_format.specs.Times.{timesAllowed}
 use Rattle.lxt_format.specs.Reals.{isReal, hasReal, byteOrder}
 use Rattle.lxt_format.specs.Judge.{tablesRefusal, fileRefusal}
 use Rattle.lxt_format.specs.JudgeLaws.{Passed, passed, passed-located, passed-length, passed-count, accepted}
 use Rattle.lxt_format.specs.declared.Kind.{Kind}
 use Rattle.lxt_format.specs.declared.Kind.the-variants.{Bits, Integer, Real, Text}
-use Rattle.lxt_tables.specs.Stage.{Geometry, refusedTables, tablesOf}
+use Rattle.lxt_tables.specs.Stage.{Geometry, tablesOf}
 use Rattle.lxt_tables.specs.Asked.{Sync, Times}
 use Rattle.lxt_tables.specs.declared.Tables.{Tables}
 use Rattle.lxt_tables.proofs.FacilityLaws.{width-fits}
@@ -56,11 +56,6 @@ module _ (s : List ℕ) (t : Tables) (e : t ≡ tablesOf s) where
   pub refusal-is : t .refusal ≡ tablesRefusal s
   unfolding tablesOf
   refusal-is = rw e (elim (ℕ-discrete (tablesRefusal s) 0) [ yes z ↦ rw z | no n ↦ simp (ne-eqb (tablesRefusal s) 0 n) ])
-
-  -- a refusal answers its number only
-  pub refused-is : (t .refusal ≡ 0 → ⊥) → t ≡ refusedTables (tablesRefusal s)
-  unfolding tablesOf
-  refused-is n = let m : tablesRefusal s ≡ 0 → ⊥ = λ z. n (refusal-is ∙ z) in e ∙ simp (ne-eqb (tablesRefusal s) 0 m)
 
   pub known : t .refusal ≡ 0 → Known s t
   unfolding tablesOf
@@ -110,15 +105,6 @@ module _ (s : List ℕ) (p : Passed s) (f : ℕ) (h : f < facilityCount s) where
   pub root-plain : isAlias s (rootOf s f) ≡ false
   root-plain = root-no-alias s f root-in
 
--- what is asked before the facts of a facility's root are read
-module _ (s : List ℕ) (t : Tables) (k : Known s t) (f : ℕ) (l : f < t .facilities) (r : ℕ) (e : r ≡ rootOf s f) where
-  pub root-asked : (Geometry s (t .geometry) (t .facilities) × (r < t .facilities)) × ((geometryAllowed s r ≡ true) × (isAlias s r ≡ false))
-  root-asked =
-      let p = k .passed in
-      let g : f < facilityCount s = rw (← k .facilities) l in
-      let h = root-in s p f g in
-      rw e ((k .geometry-at, rw (k .facilities) h), (entry-allowed s p (rootOf s f) h, root-plain s p f g))
-
 -- a root is no wider than a facility may be
 module _ (s : List ℕ) (f : ℕ) (allowed : geometryAllowed s f ≡ true) (plain : isAlias s f ≡ false) where
   narrow : (k : Kind) → kindOfFlags (flagsOf s f) ≡ k → factsBy k (msbOf s f) (lsbOf s f) .width ≤ widestFacility
@@ -135,18 +121,6 @@ module _ (s : List ℕ) (f : ℕ) (allowed : geometryAllowed s f ≡ true) (plai
 -- ---- times
 
 module _ (s : List ℕ) (p : Passed s) where
-  -- with entries every position is below T, and every time is from the first to the last
-  pub table-kept : (timeCount s ≡ 0 → ⊥)
-      → (all (λ o. ltb o (endOf s)) (positionsOf s) ≡ true) × (all (λ x. leb (firstTime s) x && leb x (lastTime s)) (timesOf s) ≡ true)
-  unfolding timesAllowed tableAllowed
-  table-kept n =
-      let rules = simp (ne-eqb (timeCount s) 0 n) at (p .times) in
-      let bounds : Bool = all (λ o. ltb o (endOf s)) (positionsOf s) && all (λ x. leb (firstTime s) x && leb x (lastTime s)) (timesOf s) in
-      let a = and-both (all (leb 1) (drop 1 (positionDeltas s))) (all (leb 1) (drop 1 (timeDeltas s)) && (leb 4 (getD (positionsOf s) 0 0) && bounds)) rules in
-      let b = and-both (all (leb 1) (drop 1 (timeDeltas s))) (leb 4 (getD (positionsOf s) 0 0) && bounds) (a .1) in
-      let c = and-both (leb 4 (getD (positionsOf s) 0 0)) bounds (b .1) in
-      and-both (all (λ o. ltb o (endOf s)) (positionsOf s)) (all (λ x. leb (firstTime s) x && leb x (lastTime s)) (timesOf s)) (c .1)
-
   -- without entries no root has a change
   pub no-changes : timeCount s ≡ 0 → any (λ f. not (eqb (syncOf s f) 0)) (rootsOf s) ≡ false
   unfolding timesAllowed

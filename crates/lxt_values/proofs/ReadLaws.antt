@@ -15,7 +15,7 @@ use Rattle.lxt_format.specs.Bytes.{toZero}
 use Rattle.lxt_format.specs.Sections.{changesFrom, endOf}
 use Rattle.lxt_format.specs.Reals.{byteOrder, bitsInOrder, realBits}
 use Rattle.lxt_format.specs.Reals as R
-use Rattle.lxt_format.specs.Changes.{commandOf, deltaSize, dataAt, symbolSize, changeEnd, dataSize}
+use Rattle.lxt_format.specs.Changes.{commandOf, dataAt, symbolSize, changeEnd, dataSize}
 use Rattle.lxt_format.specs.Values.{symbolsAt, contentBy}
 use Rattle.lxt_format.specs.Answers.{bitsOf, realOf, textOf, shown}
 use Rattle.lxt_format.specs.Questions.{written, holdingBits}

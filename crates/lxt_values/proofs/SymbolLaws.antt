@@ -13,7 +13,7 @@ use borrow.Author.Tests.{ne-eqb, leb-true}
 use Rattle.lxt_format.specs.Basics.{all}
 use Rattle.lxt_format.specs.BasicsLaws.{and-both}
 use Rattle.lxt_format.specs.Bytes.{byteAt}
-use Rattle.lxt_format.specs.Changes.{commandOf, deltaSize, dataAt, symbolSize, packedSize, codesAt, codesAllowed}
+use Rattle.lxt_format.specs.Changes.{commandOf, dataAt, symbolSize, packedSize, codesAt, codesAllowed}
 use Rattle.lxt_format.specs.UnpackLaws.{code-at, length-unpack}
 use Rattle.lxt_format.specs.Values.{symbolOf, symbolsAt}
 use Rattle.lxt_values.specs.Symbols.{Packed, Drawn}

@@ -1,7 +1,7 @@
 -- `lxt_sections::frame` meets its contract: each way out is one law.
 use borrow.Author.Needs.{needs}
 use Rattle.lxt_sections.proofs.FrameLaws.{frame-ways, six}
-use borrow.Author.Tests.{not-true, not-false}
+use borrow.Author.Tests.{not-false}
 use Rattle.lxt_sections.proofs.frame.Statement.{statement}
 use Rattle.lxt_sections.proofs.frame.Tie as tie
 

@@ -1,4 +1,4 @@
-use Rattle.lxt_values.proofs.ReadLaws.{bits-drawn, bits-read, integer-drawn, integer-read, real-asks, real-read, length-small, text-read}
+use Rattle.lxt_values.proofs.ReadLaws.{bits-drawn, bits-read, integer-drawn, integer-read, real-asks, real-read, text-read}
 use borrow.Author.Needs.{needs}
 use Rattle.lxt_values.proofs.value.read.Statement.{statement}
 use Rattle.lxt_values.proofs.value.read.Tie as tie
