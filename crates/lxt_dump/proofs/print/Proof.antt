@@ -31,25 +31,55 @@ write-requires : tie.Need-write-requires Inv-loop μ-loop
 write-requires c κs = search needs
 
 same-length : tie.Need-same-length Inv-loop μ-loop
-same-length c = c .before .before .before .before .before .before .before .before .before .before .before .name .given ∙ c .before .before .before .before .before .before .before .before .before .before .before .before .before .before .before .before .before .loop .inv .1 .0
+same-length c =
+    let filled = c .before .before .before .before .before .before .before .before .before .before .before .before in
+    let top = filled .before .before .before .before .before in
+    let lengths = top .loop .inv .1 in
+    c .before .before .before .before .before .before .before .before .before .before .before .name .given ∙ lengths .0
 
 same-length-2 : tie.Need-same-length-2 Inv-loop μ-loop
-same-length-2 c = c .before .before .before .before .before .before .before .before .before .nodes2 .given ∙ c .before .before .before .before .before .before .before .before .before .before .before .before .before .before .before .before .before .loop .inv .1 .1 .0 ∙ c .before .before .before .before .before .before .before .before .before .before .before .before .before .before .before .before .before .before .before .before .before .nodes .given
+same-length-2 c =
+    let filled = c .before .before .before .before .before .before .before .before .before .before .before .before in
+    let top = filled .before .before .before .before .before in
+    let lengths = top .loop .inv .1 in
+    c .before .before .before .before .before .before .before .before .before .nodes2 .given ∙ lengths .1 .0 ∙ top .before .before .before .before .nodes .given
 
 same-length-3 : tie.Need-same-length-3 Inv-loop μ-loop
-same-length-3 c = c .before .before .before .before .before .before .before .line2 .given ∙ c .before .before .before .before .before .before .before .before .before .before .before .before .before .before .before .before .before .loop .inv .1 .1 .1 .0 ∙ c .before .before .before .before .before .before .before .before .before .before .before .before .before .before .before .before .before .before .before .line .given
+same-length-3 c =
+    let filled = c .before .before .before .before .before .before .before .before .before .before .before .before in
+    let top = filled .before .before .before .before .before in
+    let lengths = top .loop .inv .1 in
+    c .before .before .before .before .before .before .before .line2 .given ∙ lengths .1 .1 .0 ∙ top .before .before .line .given
 
 same-length-4 : tie.Need-same-length-4 Inv-loop μ-loop
-same-length-4 c = c .before .before .before .before .before .out .given ∙ c .before .before .before .before .before .before .before .before .before .before .before .before .before .before .before .before .before .loop .inv .1 .1 .1 .1
+same-length-4 c =
+    let filled = c .before .before .before .before .before .before .before .before .before .before .before .before in
+    let top = filled .before .before .before .before .before in
+    let lengths = top .loop .inv .1 in
+    c .before .before .before .before .before .out .given ∙ lengths .1 .1 .1
 
 returns : tie.Need-returns Inv-loop μ-loop
 returns c = search needs
 
 loop-less : tie.Need-loop-less Inv-loop μ-loop
-loop-less c = less-left (c .before .before .before .before .before .before .before .before .before .before .before .before .before .fill .ensures) (c .before .before .before .before .before .before .out .given) (rw (c .before .before .before .before .before .before .before .before .before .before .before .before .before .before .before .before .before .before .loop .inv .1 .1 .1 .1) (c .before .before .before .before .before .before .before .before .before .before .before .before .before .before .before .before .before .before .before .before .before .before .before .before .before .before .before .before .before .before .before .before .pre .1)) (c .before .before .before .write .result) (c .before .if1 .left)
+loop-less c =
+    let filled = c .before .before .before .before .before .before .before .before .before .before .before .before .before in
+    let top = filled .before .before .before .before .before in
+    let lengths = top .loop .inv .1 in
+    let start = top .before .before .before .before .before .before .before .before .before .before .before .before .before .before in
+    let out = c .before .before .before .before .before .before .out .given in
+    less-left (filled .fill .ensures) out (rw (lengths .1 .1 .1) (start .pre .1)) (c .before .before .before .write .result) (c .before .if1 .left)
 
 loop-again : tie.Need-loop-again Inv-loop μ-loop
-loop-again c = (c .before .before .before .before .before .before .before .before .before .before .before .before .before .fill .ensures .sound, (c .before .before .before .before .before .before .before .before .before .before .before .before .name .given ∙ c .before .before .before .before .before .before .before .before .before .before .before .before .before .before .before .before .before .before .loop .inv .1 .0, (c .before .before .before .before .before .before .before .before .before .before .nodes2 .given ∙ c .before .before .before .before .before .before .before .before .before .before .before .before .before .before .before .before .before .before .loop .inv .1 .1 .0, (c .before .before .before .before .before .before .before .before .line2 .given ∙ c .before .before .before .before .before .before .before .before .before .before .before .before .before .before .before .before .before .before .loop .inv .1 .1 .1 .0, c .before .before .before .before .before .before .out .given ∙ c .before .before .before .before .before .before .before .before .before .before .before .before .before .before .before .before .before .before .loop .inv .1 .1 .1 .1))))
+loop-again c =
+    let filled = c .before .before .before .before .before .before .before .before .before .before .before .before .before in
+    let top = filled .before .before .before .before .before in
+    let lengths = top .loop .inv .1 in
+    let name = c .before .before .before .before .before .before .before .before .before .before .before .before .name .given in
+    let nodes = c .before .before .before .before .before .before .before .before .before .before .nodes2 .given in
+    let line = c .before .before .before .before .before .before .before .before .line2 .given in
+    let out = c .before .before .before .before .before .before .out .given in
+    (filled .fill .ensures .sound, (name ∙ lengths .0, (nodes ∙ lengths .1 .0, (line ∙ lengths .1 .1 .0, out ∙ lengths .1 .1 .1))))
 
 pub print-spec : {M : Type 1} → statement M
 print-spec =

@@ -20,34 +20,62 @@ put-part-requires : tie.Need-put-part-requires Inv-loop μ-loop
 put-part-requires c κs = part-asks _ _ _ _ _ _ _ _ _ (c .before .before .loop .inv .0)
 
 sub-left : tie.Need-sub-left Inv-loop μ-loop
-sub-left c = let b = part-bounds _ _ _ _ _ _ _ _ _ (c .before .before .before .before .before .loop .inv .0) _ _ (c .before .before .put-part .ensures) in search needs
+sub-left c =
+    let part = c .before .before in
+    let top = part .before .before .before in
+    let bounds = part-bounds _ _ _ _ _ _ _ _ _ (top .loop .inv .0) _ _ (part .put-part .ensures) in
+    search needs
 
 add-left : tie.Need-add-left Inv-loop μ-loop
-add-left c = let b = part-bounds _ _ _ _ _ _ _ _ _ (c .before .before .before .before .before .before .loop .inv .0) _ _ (c .before .before .before .put-part .ensures) in search needs
+add-left c =
+    let part = c .before .before .before in
+    let top = part .before .before .before in
+    let bounds = part-bounds _ _ _ _ _ _ _ _ _ (top .loop .inv .0) _ _ (part .put-part .ensures) in
+    search needs
 
 same-length : tie.Need-same-length Inv-loop μ-loop
-same-length c = c .before .before .before .before .before .before .before .before .before .before .loop .inv .1 .0
+same-length c = let top = c .before .before .before .before .before .before .before .before .before .before in top .loop .inv .1 .0
 
 same-length-2 : tie.Need-same-length-2 Inv-loop μ-loop
-same-length-2 c = c .before .before .before .before .before .before .before .before .before .before .loop .inv .1 .1 .0
+same-length-2 c = let top = c .before .before .before .before .before .before .before .before .before .before in top .loop .inv .1 .1 .0
 
 same-length-3 : tie.Need-same-length-3 Inv-loop μ-loop
-same-length-3 c = c .before .before .before .before .before .before .before .before .before .before .loop .inv .1 .1 .1
+same-length-3 c = let top = c .before .before .before .before .before .before .before .before .before .before in top .loop .inv .1 .1 .1
 
 same-length-4 : tie.Need-same-length-4 Inv-loop μ-loop
-same-length-4 c = same-out (c .before .before .before .before .before .before .before .before .before .before .loop .inv .0) (c .before .before .before .before .before .before .before .put-part .ensures)
+same-length-4 c =
+    let part = c .before .before .before .before .before .before .before in
+    let top = part .before .before .before in
+    same-out (top .loop .inv .0) (part .put-part .ensures)
 
 returns : tie.Need-returns Inv-loop μ-loop
-returns c = fill-ended (c .before .before .before .before .before .before .before .before .before .before .loop .inv .0) (c .before .before .before .before .before .before .before .put-part .ensures) _ _ _ refl (c .before .before .if1 .taken)
+returns c =
+    let part = c .before .before .before .before .before .before .before in
+    let top = part .before .before .before in
+    fill-ended (top .loop .inv .0) (part .put-part .ensures) _ _ _ refl (c .before .before .if1 .taken)
 
 next-line-requires : tie.Need-next-line-requires Inv-loop μ-loop
-next-line-requires c κs = line-asks (c .before .before .before .before .before .before .before .before .before .before .before .loop .inv .0) (c .before .before .before .before .before .before .before .before .put-part .ensures) (c .before .before .before .if1 .left)
+next-line-requires c κs =
+    let part = c .before .before .before .before .before .before .before .before in
+    let top = part .before .before .before in
+    line-asks (top .loop .inv .0) (part .put-part .ensures) (c .before .before .before .if1 .left)
 
 loop-less : tie.Need-loop-less Inv-loop μ-loop
-loop-less c = c .before .before .before .before .before .before .next-line .ensures .less
+loop-less c = let next = c .before .before .before .before .before .before in next .next-line .ensures .less
 
 loop-again : tie.Need-loop-again Inv-loop μ-loop
-loop-again c = (fill-again (c .before .before .before .before .before .before .before .before .before .before .before .before .before .before .before .before .before .before .loop .inv .0) (c .before .before .before .before .before .before .before .before .before .before .before .before .before .before .before .put-part .ensures) (c .before .before .before .before .before .before .before .before .before .before .if1 .left) (c .before .before .before .before .before .before .next-line .ensures), (c .before .before .before .before .before .name .given ∙ c .before .before .before .before .before .before .before .before .before .before .before .before .before .before .before .before .before .before .loop .inv .1 .0, (c .before .before .before .nodes .given ∙ c .before .before .before .before .before .before .before .before .before .before .before .before .before .before .before .before .before .before .loop .inv .1 .1 .0, c .before .line .given ∙ c .before .before .before .before .before .before .before .before .before .before .before .before .before .before .before .before .before .before .loop .inv .1 .1 .1)))
+loop-again c =
+    let next = c .before .before .before .before .before .before in
+    let tested = next .before .before .before .before in
+    let part = tested .before .before .before .before .before in
+    let top = part .before .before .before in
+    let lengths = top .loop .inv .1 in
+    let name = c .before .before .before .before .before .name .given in
+    let nodes = c .before .before .before .nodes .given in
+    let line = c .before .line .given in (
+      fill-again (top .loop .inv .0) (part .put-part .ensures) (tested .if1 .left) (next .next-line .ensures),
+      (name ∙ lengths .0, (nodes ∙ lengths .1 .0, line ∙ lengths .1 .1)),
+    )
 
 pub fill-spec : {M : Type 1} → statement M
 fill-spec =
