@@ -3,6 +3,8 @@
 // the whole buffer is as `names::length_of` leaves it. At last the same with one byte too little room.
 use libc::STDIN_FILENO;
 use libc::STDOUT_FILENO;
+use lxt_format::File;
+use lxt_format::NameCursor;
 use lxt_format::NumberAnswer;
 use lxt_format::Summary;
 use lxt_reader::names;
@@ -40,14 +42,15 @@ fn ask(file: &[u8], facility: u32, one: &mut [u8], other: &mut [u8]) -> bool {
 
 // Buffers of A5 hex, with three bytes more than a name needs.
 fn ask_with_room(file: &[u8], facility: u32) -> bool {
-    let mut one = [0xa5u8; 1026];
-    let mut other = [0xa5u8; 1026];
+    let mut one = [0xa5u8; NameCursor::LONGEST + 3];
+    let mut other = [0xa5u8; NameCursor::LONGEST + 3];
     ask(file, facility, &mut one, &mut other)
 }
 
+// Buffers with one byte too few.
 fn ask_without_room(file: &[u8]) -> bool {
-    let mut one = [0xa5u8; 1022];
-    let mut other = [0xa5u8; 1022];
+    let mut one = [0xa5u8; NameCursor::LONGEST - 1];
+    let mut other = [0xa5u8; NameCursor::LONGEST - 1];
     ask(file, 0, &mut one, &mut other)
 }
 
@@ -62,7 +65,7 @@ fn ask_all(file: &[u8]) {
 }
 
 fn main() {
-    let mut input = [0u8; 65536];
+    let mut input = [0u8; File::LONGEST_PRINTED];
     let n = io::read_full(STDIN_FILENO, &mut input);
     ask_all(&input[..n]);
     ask_without_room(&input[..n]);

@@ -14,7 +14,7 @@ use borrow.Author.Tests.{leb-true, le-leb, lt-leb, ne-eqb}
 use Rattle.lxt_format.specs.Basics.{_unless_}
 use Rattle.lxt_format.specs.BasicsLaws.{neither, kept, next-check, this-check}
 use Rattle.lxt_format.specs.Columns.{onto}
-use Rattle.lxt_format.specs.Limits.{longestPrinted}
+use Rattle.lxt_format.specs.Limits.{longestPrinted, mostFacilities}
 use Rattle.lxt_format.specs.Sections.{facilityCount}
 use Rattle.lxt_format.specs.WalkLaws.{all-asked}
 use Rattle.lxt_format.specs.Judge.{fileRefusal}
@@ -90,7 +90,7 @@ blank m nodes nodes′ r e = record {
 
 module _ (s : List ℕ) (t : Tables) (w : Opened s t) where
   -- no more facilities than the most
-  pub leaves-ask : t .facilities ≤ 4096
+  pub leaves-ask : t .facilities ≤ mostFacilities
   leaves-ask = opened-known s t w .few
 
   module _ (nodes : List ℕ) (room : 8192 ≤ length nodes) (m : ℕ) (l : Leaves (t .facilities) m) where

@@ -8,6 +8,7 @@ use mathlib.Core.List.{List, [], _∷_, _++_, append-assoc, append-nil}
 use lib.ListN.{length, take, drop, length-drop}
 use lib.Seq.{take-length, drop-length, drop-drop, slice}
 use lib.Ieee.{Float}
+use Rattle.lxt_format.specs.Limits.{widestFacility}
 use Rattle.lxt_format.specs.Basics.{Answer, given, refused}
 use Rattle.lxt_format.specs.Sections.{facilityCount, endOf}
 use Rattle.lxt_format.specs.Bytes.{toZero}
@@ -63,10 +64,10 @@ module _ (s : List ℕ) (t : Tables) (w : Opened s t) (f : ℕ) (l : f < t .faci
   facts-asks = own-asks s t w f l (a .root)
 
   module _ (x : Facts) (e : x ≡ ownFacts s f) where
-    pub narrow : x .width ≤ 4096
+    pub narrow : x .width ≤ widestFacility
     narrow = rw e (width-most s f (facts-asks .1 .0) (a .root))
 
-    pub readies : (room : ℕ) → 4096 ≤ room → Readies s (t .end) (t .order) (x .kind) (x .width) o room
+    pub readies : (room : ℕ) → widestFacility ≤ room → Readies s (t .end) (t .order) (x .kind) (x .width) o room
     readies room h =
         let k = opened-known s t w in
         let below : f < facilityCount s = rw (← k .facilities) l in
@@ -229,7 +230,7 @@ module _ (s : List ℕ) (end : ℕ) (order : List ℕ) (kind : Kind) (width o ro
 
 -- ---- the ways out of putting a value
 
-module _ (s : List ℕ) (t : Tables) (w : Opened s t) (f : ℕ) (l : f < t .facilities) (o : ℕ) (a : Allowed s (pairOf f o)) (x : Facts) (ex : x ≡ ownFacts s f) (b : List ℕ) (at : ℕ) (h : at + (2 * length s + 4096) ≤ length b) where
+module _ (s : List ℕ) (t : Tables) (w : Opened s t) (f : ℕ) (l : f < t .facilities) (o : ℕ) (a : Allowed s (pairOf f o)) (x : Facts) (ex : x ≡ ownFacts s f) (b : List ℕ) (at : ℕ) (h : at + (2 * length s + widestFacility) ≤ length b) where
   pub read-asks : Readies s (t .end) (t .order) (x .kind) (x .width) o (length (partFrom b at))
   read-asks = let p = part-long b at in readies s t w f l o a x ex (length (partFrom b at)) (omega arith)
 
@@ -241,7 +242,7 @@ module _ (s : List ℕ) (t : Tables) (w : Opened s t) (f : ℕ) (l : f < t .faci
     holds = ey ∙ ap (λ c. holdingBits c (partFrom b at)) (content-is s t w f l o a x ex)
 
     pub value-bits : (n : ℕ) → v ≡ ofValue.Bits n
-        → Put b at (valueText s (contentOf s f o)) (at + n) (partBack b at ys) × (at + n ≤ at + (2 * length s + 4096))
+        → Put b at (valueText s (contentOf s f o)) (at + n) (partBack b at ys) × (at + n ≤ at + (2 * length s + widestFacility))
     value-bits n e =
         let m = narrow s t w f l o a x ex in
         let z = bits-wide s (t .end) (t .order) (x .kind) (x .width) o (length (partFrom b at)) read-asks v ev n e in
@@ -249,7 +250,7 @@ module _ (s : List ℕ) (t : Tables) (w : Opened s t) (f : ℕ) (l : f < t .faci
 
     pub value-real : (y : Float) (c : ℕ) → v ≡ ofValue.Real y c → (bytes : List ℕ) → bytes ≡ digits 8 8 c → (q : ℕ) (b′ : List ℕ)
         → Put (partBack b at ys) at (hexBytes bytes) q b′ → q ≡ at + 2 * length bytes
-        → Put b at (valueText s (contentOf s f o)) q b′ × (q ≤ at + (2 * length s + 4096))
+        → Put b at (valueText s (contentOf s f o)) q b′ × (q ≤ at + (2 * length s + widestFacility))
     unfolding digits
     value-real y c e bytes eb q b′ p eq =
         let z : length bytes ≡ 8 = rw eb in
@@ -259,7 +260,7 @@ module _ (s : List ℕ) (t : Tables) (w : Opened s t) (f : ℕ) (l : f < t .faci
     text-part i k e = text-inside s (t .end) (t .order) (x .kind) (x .width) o (length (partFrom b at)) read-asks v ev i k e
 
     pub value-text : (i k : ℕ) → v ≡ ofValue.Text i k → (q : ℕ) (b′ : List ℕ) → Put (partBack b at ys) at (hexBytes (take (i + k - i) (drop i s))) q b′
-        → q ≡ at + 2 * length (take (i + k - i) (drop i s)) → Put b at (valueText s (contentOf s f o)) q b′ × (q ≤ at + (2 * length s + 4096))
+        → q ≡ at + 2 * length (take (i + k - i) (drop i s)) → Put b at (valueText s (contentOf s f o)) q b′ × (q ≤ at + (2 * length s + widestFacility))
     value-text i k e q b′ p eq =
         let z = length-take-most (i + k - i) (drop i s) in
         let y = length-drop i s in
@@ -271,7 +272,7 @@ module _ (s : List ℕ) (t : Tables) (w : Opened s t) (f : ℕ) (l : f < t .faci
         length-take-most (suc n) (y ∷ r) = let ih = length-take-most n r in omega arith
 
     pub value-none : v ≡ ofValue.NotDriven
-        → Put b at (valueText s (contentOf s f o)) at (partBack b at ys) × (at ≤ at + (2 * length s + 4096))
+        → Put b at (valueText s (contentOf s f o)) at (partBack b at ys) × (at ≤ at + (2 * length s + widestFacility))
     value-none e = (none-put s (contentOf s f o) v says b at ys holds e (omega arith), omega arith)
 
     pub value-refused : (n : ℕ) → v ≡ ofValue.Refused n → ⊥

@@ -3,6 +3,7 @@ ghost use mathlib.Core.Path.{_≡_};
 ghost use Prim.Native.Nat.{_+_, _*_, _≤_, _<_};
 ghost use mathlib.Core.List.{_++_};
 ghost use lib.ListN.{length};
+ghost use Rattle.lxt_format.specs.Limits.{widestFacility};
 ghost use Rattle.lxt_format.specs.Columns.{onto};
 ghost use Rattle.lxt_format.specs.Names.{nameOf};
 ghost use Rattle.lxt_format.specs.Times.{timeOf};
@@ -148,8 +149,8 @@ fn put_change(f: u32, o: u32, time: u32, out: &mut [u8]) -> usize
 
 // The value of a change: symbols as they are, reals and texts in hexadecimal.
 fn put_value(file: &[u8], t: Tables, f: u32, o: u32, out: &mut [u8], at: usize) -> usize
-    requires { ⌜ Opened (now file) t × ((f < t .facilities) × (Allowed (now file) (pairOf f o) × (at + (2 * length (now file) + 4096) ≤ length (now out)))) ⌝ }
-    ensures { λ r. ⌜ Put (now (out .entry)) at (valueText (now (file .entry)) (contentOf (now (file .entry)) f o)) r (now (out .exit)) × (r ≤ at + (2 * length (now (file .entry)) + 4096)) ⌝ }
+    requires { ⌜ Opened (now file) t × ((f < t .facilities) × (Allowed (now file) (pairOf f o) × (at + (2 * length (now file) + widestFacility) ≤ length (now out)))) ⌝ }
+    ensures { λ r. ⌜ Put (now (out .entry)) at (valueText (now (file .entry)) (contentOf (now (file .entry)) f o)) r (now (out .exit)) × (r ≤ at + (2 * length (now (file .entry)) + widestFacility)) ⌝ }
 {
     let facts = geometry::own_facts(file, t.geometry as usize, t.facilities, f);
     let kind = facts.kind;

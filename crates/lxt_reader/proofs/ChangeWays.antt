@@ -19,7 +19,7 @@ use Rattle.lxt_format.specs.declared.Facts.{Facts}
 use Rattle.lxt_tables.specs.Asked.{Sync}
 use Rattle.lxt_tables.proofs.TablesLaws.{Known, root-in, root-plain, tables-known}
 use Rattle.lxt_values.specs.Times.{Readable, change}
-use Rattle.lxt_values.specs.TimesLaws.{chain-readable, change-sound}
+use Rattle.lxt_values.proofs.SoundChains.{chain-readable, change-sound}
 use Rattle.lxt_reader.specs.Asking.{Answers}
 use Rattle.lxt_reader.specs.Changing.{Followed, Chained, Looked}
 use Rattle.lxt_reader.specs.declared.facilities.Asked.{Asked}

@@ -40,11 +40,11 @@ module _ (s : List ℕ) (f room : ℕ) (a : Asked) (w : Answers s f a) where
     facility-fine : facilityRefusal s f ≡ 0
     facility-fine = sym (w .refusal) ∙ h
 
-    pub no-room : room < 1023 → (r : NamePlace) → r ≡ nowhere 21 → Named s f room r
+    pub no-room : room < longestName → (r : NamePlace) → r ≡ nowhere 21 → Named s f room r
     unfolding nameRefusal
     no-room l r e =
         rw e record {
-          refusal = sym (rw (facility-fine, lt-leb 1023 room l));
+          refusal = sym (rw (facility-fine, lt-leb longestName room l));
           asks = λ z. absurd (eqb-false 21 0 refl z);
           name = λ z. absurd (eqb-false 21 0 refl z);
         }
@@ -52,14 +52,14 @@ module _ (s : List ℕ) (f room : ℕ) (a : Asked) (w : Answers s f a) where
     pub head-there : (a .tables .names + 4) + 4 ≤ length s
     head-there = let k = all-known s f a w h in omega (arith, k .names-high, k .end-high)
 
-    pub name-found : 1023 ≤ room → (m : ℕ) → m ≡ u32At s (a .tables .names + 4)
+    pub name-found : longestName ≤ room → (m : ℕ) → m ≡ u32At s (a .tables .names + 4)
         → Named s f room (record { refusal = 0; at = a .tables .names + 8; end = a .tables .end; facilities = a .tables .facilities; memory = m })
     unfolding nameRefusal
     name-found l m em =
         let k = all-known s f a w h in
         let below = facility-below s f a w h in
         record {
-          refusal = sym (rw (facility-fine, le-leb 1023 room l));
+          refusal = sym (rw (facility-fine, le-leb longestName room l));
           asks = λ z. record {
             start = k .names-high;
             inside = omega (arith, k .end-high);
@@ -85,14 +85,14 @@ module _ (s : List ℕ) (f : ℕ) (buffer : List ℕ) (p : NamePlace) (w : Named
     fine : nameRefusal s f (length buffer) ≡ 0
     fine = sym (w .refusal) ∙ h
 
-    room-enough : 1023 ≤ length buffer
+    room-enough : longestName ≤ length buffer
     unfolding nameRefusal
-    room-enough = leb-true _ _ (kept 21 _ (lit< tt) (neither (facilityRefusal s f) (21 unless leb 1023 (length buffer)) fine .1))
+    room-enough = leb-true _ _ (kept 21 _ (lit< tt) (neither (facilityRefusal s f) (21 unless leb longestName (length buffer)) fine .1))
 
-    pub expand-asks : N.Named s (p .at) (p .end) (p .facilities) (p .memory) f × (1023 ≤ length buffer)
+    pub expand-asks : N.Named s (p .at) (p .end) (p .facilities) (p .memory) f × (longestName ≤ length buffer)
     expand-asks = (w .asks h, room-enough)
 
-    pub length-small : (n : ℕ) → n ≡ length (nameAt s (p .at) (p .end) (p .facilities) f) → n ≤ 1023
+    pub length-small : (n : ℕ) → n ≡ length (nameAt s (p .at) (p .end) (p .facilities) f) → n ≤ longestName
     unfolding nameAt
     length-small n e = rw e (names-short (p .facilities) (slice (p .at) (p .end) s) [] f)
 

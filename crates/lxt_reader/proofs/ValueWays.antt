@@ -26,7 +26,7 @@ use Rattle.lxt_format.specs.declared.Kind.the-variants.{Bits, Integer, Real, Te
 use Rattle.lxt_values.specs.Reals.{order-places}
 use Rattle.lxt_values.specs.Times as Ti
 use Rattle.lxt_values.specs.Times.{Readable}
-use Rattle.lxt_values.specs.TimesLaws.{chain-readable, latest-change-sound}
+use Rattle.lxt_values.proofs.SoundChains.{chain-readable, latest-change-sound}
 use Rattle.lxt_tables.specs.Stage.{tablesOf}
 use Rattle.lxt_tables.proofs.TablesLaws.{Known, tables-known, root-in, root-plain, has-real, real-order}
 use Rattle.lxt_reader.specs.Changing.{Followed, Chained, Looked}

@@ -1,3 +1,5 @@
+pub mod SoundSymbols
+pub mod SoundChains
 pub mod SymbolLaws
 pub mod RealLaws
 pub mod TimeLaws

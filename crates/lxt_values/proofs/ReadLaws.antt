@@ -24,7 +24,7 @@ use Rattle.lxt_format.specs.declared.Kind.the-variants.{Bits, Integer, Real, Te
 use Rattle.lxt_changes.specs.Faults.{symbolic}
 use Rattle.lxt_values.specs.Symbols.{Drawn}
 use Rattle.lxt_values.proofs.SymbolLaws.{Sizes, by-1, by-2, by-4, symbols-length}
-use Rattle.lxt_values.specs.SymbolsLaws.{sound-drawn}
+use Rattle.lxt_values.proofs.SoundSymbols.{sound-drawn}
 use Rattle.lxt_values.specs.Reals.{Places}
 use Rattle.lxt_values.specs.Times as Ti
 use Rattle.lxt_values.specs.Value.{Readies}
