@@ -1,6 +1,6 @@
 -- That each rule does something: for each refusal number files and questions on either side of the rule, and the answers of a trace with every kind.
 use Prim.Native.Nat.{ℕ, _+_}
-use mathlib.Core.Path.{refl}
+use mathlib.Core.Path.{_≡_, refl}
 use mathlib.Core.Bool.{true, false}
 use mathlib.Core.List.{List, [], _∷_, _++_, map}
 use lib.ListN.{set, take, drop, replicate}
@@ -8,16 +8,16 @@ use lib.IntN.{ℤ, pos, negsuc}
 use lib.Ieee.{binary64, ofBits}
 use Rattle.lxt_format.specs.Limits.{longestFile}
 use Rattle.lxt_format.specs.Basics.{_unless_, Answer, given, refused, range}
-use Rattle.lxt_format.specs.Sections.{countAllowed}
+use Rattle.lxt_format.specs.Sections.{lengthAllowed, startsRight, endsRight, listingOf, nothingCompressed, present, sectionsPresent, bodiesInside, countAllowed, facilityCount}
 use Rattle.lxt_format.specs.Names.{nameOf}
 use Rattle.lxt_format.specs.Changes.{previousOf}
 use Rattle.lxt_format.specs.Values.{symbolOf}
-use Rattle.lxt_format.specs.Judge.{judge, allChanges, endAt, fileRefusal}
+use Rattle.lxt_format.specs.Judge.{tablesRefusal, judge, allChanges, endAt, fileRefusal}
 use Rattle.lxt_format.specs.Walk.{fullList}
 use Rattle.lxt_format.specs.Answers.{bitsOf, realOf, textOf, nothing}
 use Rattle.lxt_format.specs.Questions.{factsAsked, rootAsked, nameAsked, namePart, nameBuffer, beforeAsked, changeAsked, changeBuffer, valueAsked, valueBuffer, startAsked, startRecord, carryAsked, carryRecord, carryOutput}
 use Rattle.lxt_format.specs.Everything.{everything}
-use Rattle.lxt_format.specs.Traces.{spelled, with16, with32, facilitiesNamed, crowded}
+use Rattle.lxt_format.specs.Traces.{spelled, with16, with32, facilitiesNamed}
 use Rattle.lxt_format.specs.Traces.{trace, version, oldestDelta, newestCommand, newestDelta, nameMemory, namePrefix, nameZero, rows, msb, lsb, flags, syncEntry}
 use Rattle.lxt_format.specs.Traces.{entries, firstOfTimes, lastOfTimes, positionDelta0, positionDelta1, timeDelta0, timeDelta1, changesValue, syncValue, namesValue, geometryValue, timesValue, lastByte}
 use Rattle.lxt_format.specs.Traces.{mixed, command5, delta5, data5, command8, delta8, command14, command24, data29, command37, entriesOfMixed, syncOfMixed, rowsOfMixed, msbOfMixed, lsbOfMixed, flagsOfMixed, timescaleByte, initialByte, realTest, testValue}
@@ -250,13 +250,11 @@ unfolding everything trace mixed spelled endItem nearerEnd testPastEnd quiet two
 neighbours-hold =
     (refl, (refl, (refl, (refl, (refl, (refl, (refl, (refl, (refl, (refl, (refl, (refl, (refl, (refl, (refl, (refl, (refl, (refl, (refl, (refl, (refl, (refl, (refl, (refl, (refl, (refl, (refl, (refl, (refl, (refl, (refl, (refl, (refl, (refl, (refl, (refl, (refl, (refl, (refl, (refl, (refl, (refl, (refl, (refl, (refl, (refl, (refl, (refl, (refl, (refl, (refl, (refl, (refl, (refl, (refl, (refl, (refl, (refl, (refl, (refl, (refl, (refl, (refl, (refl, (refl, (refl, (refl, (refl, (refl, (refl, (refl, (refl, (refl, (refl, (refl, (refl, (refl, (refl, (refl, (refl, (refl, (refl, (refl, (refl, (refl, (refl, (refl, (refl, (refl, (refl, (refl, (refl, (refl, (refl, (refl, (refl, (refl, (refl, (refl, (refl, (refl, (refl, (refl, (refl, (refl, (refl, (refl, (refl, (refl, (refl, (refl, (refl, (refl, (refl, (refl, (refl, (refl, (refl, (refl, (refl, (refl, (refl, (refl, (refl, (refl, (refl, (refl, (refl, (refl, (refl, (refl, (refl, (refl, (refl, (refl, (refl, (refl, (refl, (refl, (refl, (refl, (refl, (refl, (refl, (refl, (refl, (refl, (refl, (refl, (refl, (refl, (refl, (refl, (refl, (refl, (refl, (refl, (refl, (refl, (refl, (refl, (refl, (refl, (refl, (refl, (refl, (refl, (refl, (refl, tt)))))))))))))))))))))))))))))))))))))))))))))))))))))))))))))))))))))))))))))))))))))))))))))))))))))))))))))))))))))))))))))))))))))))))))))))))))))))))))))))))))))))))
 
--- refusal 9 of a whole file, which is long: a table of its own
-pub large : List Row
-large = row 9 (fileRefusal (crowded 4097)) 9 ∷ []
-
-pub large-holds : Holds large
-unfolding everything spelled large
-large-holds = (refl, tt)
+-- refusal 9 of a whole file. Such a file has 65,000 bytes and more, so this is said of any, by what it keeps, and not computed
+pub too-many : (s : List ℕ) → lengthAllowed s ≡ true → startsRight s ≡ true → endsRight s ≡ true → listingOf s .listed ≡ true → nothingCompressed s ≡ true
+    → present s 0x09 ≡ false → sectionsPresent s ≡ true → bodiesInside s ≡ true → facilityCount s ≡ 4097 → fileRefusal s ≡ 9
+unfolding fileRefusal tablesRefusal countAllowed
+too-many s a b c d e f g h n = rw (a, b, c, d, e, f, g, h, n)
 
 -- the answers of the trace `mixed`
 pub answers : List Row

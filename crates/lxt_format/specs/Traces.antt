@@ -141,24 +141,6 @@ facilitiesNamed n M names =
     ++ spelled 5 0x0000000406
     ++ spelled 1 0xB4
 
--- ---- n facilities whose tables all lie from 4 on, but for the times; the prefix of the first name is too long
-
-abbrev pub crowded : ℕ → List ℕ
-crowded n =
-    spelled 4 0x01380004
-    ++ spelled 4 n
-    ++ spelled 4 0
-    ++ spelled 2 1
-    ++ replicate (16 * n) 0
-    -- END
-    ++ spelled 1 0x00
-    ++ spelled 5 0x0000000401
-    ++ spelled 5 0x0000000402
-    ++ spelled 5 0x0000000403
-    ++ spelled 5 0x0000000404
-    ++ spelled 5 0x0000000E06
-    ++ spelled 1 0xB4
-
 -- ---- a trace with more
 
 -- A trace with every kind, an alias of an alias, a reordered real, C above 4, sections in another order, tags that are skipped and a tag that is met
