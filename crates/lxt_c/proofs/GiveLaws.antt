@@ -1,20 +1,20 @@
 -- From what the reader answers to what the C functions hand out.
 use Prim.Native.Nat.{ℕ}
-use mathlib.Core.Path.{_≡_, sym, _∙_, ap}
-use mathlib.Core.Bool.{Bool, true, false}
+use mathlib.Core.Path.{_≡_, _∙_, ap}
+use mathlib.Core.Bool.{Bool}
 use mathlib.Core.List.{List, [], _∷_}
 use lib.Ieee.{Float}
 use native.Mathlib.Omega.{arith}
 use native.Mathlib.Decide.{ℕ-discrete}
-use Rattle.lxt_format.specs.Basics.{if_then_else_, Answer, given, refused, answer}
+use Rattle.lxt_format.specs.Basics.{Answer, given, refused, answer}
 use Rattle.lxt_format.specs.BasicsLaws.{answer-given, answer-refused}
-use Rattle.lxt_format.specs.Answers.{Shown, valueSays, timedSays, carrySays}
+use Rattle.lxt_format.specs.Answers.{Shown, Timed, valueSays, timedSays, carrySays}
 use Rattle.lxt_format.specs.declared.CarryAnswer.{CarryAnswer}
 use Rattle.lxt_format.specs.declared.CarryAnswer.the-variants.{Handed}
 use Rattle.lxt_format.specs.declared.TimedValue.{TimedValue}
 use Rattle.lxt_format.specs.declared.Value.{Value}
 use Rattle.lxt_format.specs.declared.Value.the-variants.{Bits, Real, Text}
-use Rattle.lxt_c.specs.Numbers.{numberOf, oneNumber, valueNumbers, shownNumbers, timeBy, changeTime, carryNumbers}
+use Rattle.lxt_c.specs.Numbers.{numberOf, oneNumber, valueNumbers, shownNumbers, yesNo, besideValue, changeTime, changeClean, carryNumbers}
 
 is-given : {A : Type 0} → Answer A → ℕ
 is-given (given a) = 1
@@ -47,9 +47,9 @@ module _ (v : Value) where
   unfolding numberOf
   bits-number w e = rw e
 
-  pub bits-time : (w : ℕ) → v ≡ Bits w → (at before : ℕ) → at ≡ timeBy (valueSays v) at before
-  unfolding timeBy
-  bits-time w e at before = rw e
+  pub bits-beside : (w : ℕ) → v ≡ Bits w → (number before : ℕ) → number ≡ besideValue (valueSays v) number before
+  unfolding besideValue
+  bits-beside w e number before = rw e
 
   pub bits-numbers : (w : ℕ) → v ≡ Bits w → (before : List ℕ) → (0 ∷ w ∷ 0 ∷ []) ≡ valueNumbers (valueSays v) before
   unfolding valueNumbers shownNumbers
@@ -59,9 +59,9 @@ module _ (v : Value) where
   unfolding numberOf
   real-number x b e = rw e
 
-  pub real-time : (x : Float) (b : ℕ) → v ≡ Real x b → (at before : ℕ) → at ≡ timeBy (valueSays v) at before
-  unfolding timeBy
-  real-time x b e at before = rw e
+  pub real-beside : (x : Float) (b : ℕ) → v ≡ Real x b → (number before : ℕ) → number ≡ besideValue (valueSays v) number before
+  unfolding besideValue
+  real-beside x b e number before = rw e
 
   pub real-numbers : (x : Float) (b : ℕ) → v ≡ Real x b → (before : List ℕ) → (1 ∷ b ∷ 0 ∷ []) ≡ valueNumbers (valueSays v) before
   unfolding valueNumbers shownNumbers
@@ -71,24 +71,27 @@ module _ (v : Value) where
   unfolding numberOf
   text-number start size e = rw e
 
-  pub text-time : (start size : ℕ) → v ≡ Text start size → (at before : ℕ) → at ≡ timeBy (valueSays v) at before
-  unfolding timeBy
-  text-time start size e at before = rw e
+  pub text-beside : (start size : ℕ) → v ≡ Text start size → (number before : ℕ) → number ≡ besideValue (valueSays v) number before
+  unfolding besideValue
+  text-beside start size e number before = rw e
 
   pub text-numbers : (start size : ℕ) → v ≡ Text start size → (before : List ℕ) → (2 ∷ start ∷ size ∷ []) ≡ valueNumbers (valueSays v) before
   unfolding valueNumbers shownNumbers
   text-numbers start size e before = rw e
 
--- a change's time and value
-module _ {p : ℕ × Answer Shown} (t : TimedValue) (e : timedSays t ≡ p) where
-  pub timed-number : {r : ℕ} → r ≡ numberOf (valueSays (t .value)) → r ≡ numberOf (p .1)
-  timed-number h = h ∙ ap (λ a. numberOf (a .1)) e
+-- a change's time and value, and whether its padding was clean
+module _ {p : Timed} (t : TimedValue) (e : timedSays t ≡ p) where
+  pub timed-number : {r : ℕ} → r ≡ numberOf (valueSays (t .value)) → r ≡ numberOf (p .value)
+  timed-number h = h ∙ ap (λ a. numberOf (a .value)) e
 
-  pub timed-numbers : (before : List ℕ) {after : List ℕ} → after ≡ valueNumbers (valueSays (t .value)) before → after ≡ valueNumbers (p .1) before
-  timed-numbers before h = h ∙ ap (λ a. valueNumbers (a .1) before) e
+  pub timed-numbers : (before : List ℕ) {after : List ℕ} → after ≡ valueNumbers (valueSays (t .value)) before → after ≡ valueNumbers (p .value) before
+  timed-numbers before h = h ∙ ap (λ a. valueNumbers (a .value) before) e
 
-  pub timed-time : (before : ℕ) {after : ℕ} → after ≡ timeBy (valueSays (t .value)) (t .time) before → after ≡ changeTime p before
+  pub timed-time : (before : ℕ) {after : ℕ} → after ≡ besideValue (valueSays (t .value)) (t .time) before → after ≡ changeTime p before
   timed-time before h = h ∙ ap (λ a. changeTime a before) e
+
+  pub timed-clean : (clean : ℕ) → clean ≡ yesNo (t .clean) → (before : ℕ) {after : ℕ} → after ≡ besideValue (valueSays (t .value)) clean before → after ≡ changeClean p before
+  timed-clean clean ec before h = h ∙ rw ec (ap (λ a. changeClean a before) e)
 
 -- pairs that were handed out
 module _ (a : CarryAnswer) (count : ℕ) (done : Bool) (e : a ≡ Handed count done) where
@@ -96,12 +99,6 @@ module _ (a : CarryAnswer) (count : ℕ) (done : Bool) (e : a ≡ Handed count d
   unfolding numberOf
   handed-number = rw e
 
-  handed-numbers : (before : List ℕ) → (count ∷ (if done then 1 else 0) ∷ []) ≡ carryNumbers (carrySays a) before
+  pub handed-numbers : (last : ℕ) → last ≡ yesNo done → (before : List ℕ) → (count ∷ last ∷ []) ≡ carryNumbers (carrySays a) before
   unfolding carryNumbers
-  handed-numbers before = rw e
-
-  pub last-numbers : done ≡ true → (last : ℕ) → last ≡ 1 → (before : List ℕ) → (count ∷ last ∷ []) ≡ carryNumbers (carrySays a) before
-  last-numbers d last l before = ap (λ (n : ℕ). count ∷ n ∷ []) (l ∙ ap (λ b. if b then 1 else 0) (sym d)) ∙ handed-numbers before
-
-  pub more-numbers : done ≡ false → (last : ℕ) → last ≡ 0 → (before : List ℕ) → (count ∷ last ∷ []) ≡ carryNumbers (carrySays a) before
-  more-numbers d last l before = ap (λ (n : ℕ). count ∷ n ∷ []) (l ∙ ap (λ b. if b then 1 else 0) (sym d)) ∙ handed-numbers before
+  handed-numbers last l before = rw (e, l)

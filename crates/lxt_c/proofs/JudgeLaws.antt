@@ -14,7 +14,7 @@ use Rattle.lxt_format.specs.declared.Judgement.{Judgement}
 use Rattle.lxt_format.specs.declared.Judgement.the-variants.{Accepted, Refused}
 use Rattle.lxt_reader.proofs.JudgeWays.{timescale-fits}
 use Rattle.lxt_c.proofs.GiveLaws.{given-value}
-use Rattle.lxt_c.specs.Numbers.{numberOf, judgeNumbers, judgeTimescale}
+use Rattle.lxt_c.specs.Numbers.{numberOf, yesNo, judgeNumbers, judgeTimescale}
 
 module _ (s : List ℕ) (j : Judgement) (e : judgementSays j ≡ judge s) where
   pub refused-number : (k : ℕ) → j ≡ Refused k → k ≡ numberOf (judge s)
@@ -49,6 +49,6 @@ module _ (s : List ℕ) (j : Judgement) (e : judgementSays j ≡ judge s) where
     unfolding numberOf
     accepted-number = rw (← given-is)
 
-    pub accepted-numbers : (l : List ℕ) → a .facilities ∷ a .changes ∷ a .end ∷ a .initial ∷ [] ≡ judgeNumbers (judge s) l
+    pub accepted-numbers : (clean : ℕ) → clean ≡ yesNo (a .clean) → (l : List ℕ) → a .facilities ∷ a .changes ∷ a .end ∷ a .initial ∷ clean ∷ [] ≡ judgeNumbers (judge s) l
     unfolding judgeNumbers
-    accepted-numbers l = rw (← given-is)
+    accepted-numbers clean ec l = rw (← given-is, ec)

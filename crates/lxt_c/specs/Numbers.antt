@@ -4,7 +4,7 @@ use mathlib.Core.Bool.{Bool}
 use mathlib.Core.List.{List, [], _∷_}
 use lib.IntN.{ℤ}
 use Rattle.lxt_format.specs.Basics.{if_then_else_, Answer, given, refused}
-use Rattle.lxt_format.specs.Answers.{Shown, bitsOf, realOf, textOf, nothing}
+use Rattle.lxt_format.specs.Answers.{Shown, bitsOf, realOf, textOf, nothing, Timed}
 use Rattle.lxt_format.specs.declared.Summary.{Summary}
 use Rattle.lxt_format.specs.declared.Facts.{Facts}
 use Rattle.lxt_format.specs.declared.Kind.{Kind}
@@ -14,9 +14,13 @@ unfoldable pub numberOf : {A : Type 0} → Answer A → ℕ
 numberOf (given a) = 0
 numberOf (refused k) = k
 
--- n, C, T and the initial symbol's code; what was there where judging refused
+-- yes and no as numbers
+abbrev pub yesNo : Bool → ℕ
+yesNo b = if b then 1 else 0
+
+-- n, C, T, the initial symbol's code and whether all padding was clean; what was there where judging refused
 unfoldable pub judgeNumbers : Answer Summary → List ℕ → List ℕ
-judgeNumbers (given a) before = a .facilities ∷ a .changes ∷ a .end ∷ a .initial ∷ []
+judgeNumbers (given a) before = a .facilities ∷ a .changes ∷ a .end ∷ a .initial ∷ yesNo (a .clean) ∷ []
 judgeNumbers (refused k) before = before
 
 unfoldable pub judgeTimescale : Answer Summary → ℤ → ℤ
@@ -59,15 +63,19 @@ unfoldable pub valueNumbers : Answer Shown → List ℕ → List ℕ
 valueNumbers (given a) before = shownNumbers a
 valueNumbers (refused k) before = before
 
--- a change's time; what was there where the question is refused
-unfoldable pub timeBy : Answer Shown → ℕ → ℕ → ℕ
-timeBy (given v) time before = time
-timeBy (refused k) time before = before
+-- a number that is answered beside a value; what was there where the question is refused
+unfoldable pub besideValue : Answer Shown → ℕ → ℕ → ℕ
+besideValue (given v) number before = number
+besideValue (refused k) number before = before
 
-abbrev pub changeTime : ℕ × Answer Shown → ℕ → ℕ
-changeTime a before = timeBy (a .1) (a .0) before
+-- a change's time, and whether its padding was clean
+abbrev pub changeTime : Timed → ℕ → ℕ
+changeTime a before = besideValue (a .value) (a .time) before
 
--- carrying on: how many pairs were handed out, and 1 where all pending offsets are 0, else 0; what was there where it is refused
+abbrev pub changeClean : Timed → ℕ → ℕ
+changeClean a before = besideValue (a .value) (yesNo (a .clean)) before
+
+-- carrying on: how many pairs were handed out, and whether all pending offsets are 0; what was there where it is refused
 unfoldable pub carryNumbers : Answer (ℕ × Bool) → List ℕ → List ℕ
-carryNumbers (given a) before = a .0 ∷ (if a .1 then 1 else 0) ∷ []
+carryNumbers (given a) before = a .0 ∷ yesNo (a .1) ∷ []
 carryNumbers (refused k) before = before

@@ -5,7 +5,7 @@ ghost use Rattle.lxt_format.specs.Judge.{judge};
 ghost use lib.ListN.{length};
 ghost use Rattle.lxt_format.specs.Answers.{numberSays, valueSays};
 ghost use Rattle.lxt_format.specs.Questions.{factsAsked, rootAsked, nameAsked, nameBuffer, beforeAsked, changeAsked, changeBuffer, valueAsked, valueBuffer};
-ghost use Rattle.lxt_c.specs.Numbers.{numberOf, judgeNumbers, judgeTimescale, kindNumber, factsNumbers, factsMsb, factsLsb, oneNumber, valueNumbers, timeBy, changeTime};
+ghost use Rattle.lxt_c.specs.Numbers.{numberOf, judgeNumbers, judgeTimescale, kindNumber, factsNumbers, factsMsb, factsLsb, oneNumber, valueNumbers, yesNo, besideValue, changeTime, changeClean};
 use lxt_format::FactsAnswer;
 use lxt_format::Judgement;
 use lxt_format::Kind;
@@ -18,9 +18,20 @@ use lxt_reader::values;
 
 pub mod walk;
 
-// n, C, T and the initial symbol's code; the timescale, which is signed, stands by itself.
+// 1 for yes, 0 for no.
+pub fn yes_no(b: bool) -> u32
+    ensures { λ r. ⌜ r ≡ yesNo b ⌝ }
+{
+    if b {
+        return 1;
+    }
+    0
+}
+
+// n, C, T, the initial symbol's code and whether the padding of every change is 0; the timescale, which is
+// signed, stands by itself.
 #[no_mangle]
-pub extern "C" fn lxt_judge(file: &[u8], answer: &mut [u32; 4], timescale: &mut i8) -> u32
+pub extern "C" fn lxt_judge(file: &[u8], answer: &mut [u32; 5], timescale: &mut i8) -> u32
     ensures { λ r. ⌜ r ≡ numberOf (judge (now (file .entry))) ⌝ }
     ensures { λ _. ⌜ now (answer .exit) ≡ judgeNumbers (judge (now (file .entry))) (now (answer .entry)) ⌝ }
     ensures { λ _. ⌜ now (timescale .exit) ≡ judgeTimescale (judge (now (file .entry))) (now (timescale .entry)) ⌝ }
@@ -28,7 +39,8 @@ pub extern "C" fn lxt_judge(file: &[u8], answer: &mut [u32; 4], timescale: &mut 
     let j = lxt_reader::judge(file);
     match j {
         Judgement::Accepted(s) => {
-            *answer = [s.facilities, s.changes, s.end, s.initial as u32];
+            let clean = yes_no(s.clean);
+            *answer = [s.facilities, s.changes, s.end, s.initial as u32, clean];
             let scale = s.timescale;
             *timescale = scale;
             0
@@ -153,31 +165,31 @@ fn give_value(v: Value, answer: &mut [u64; 3]) -> u32
     }
 }
 
-// A change's time; what was there where its value is refused.
-fn give_time(v: Value, at: u32, time: &mut u32)
-    ensures { λ _. ⌜ now (time .exit) ≡ timeBy (valueSays v) at (now (time .entry)) ⌝ }
+// A number that is answered beside a value; what was there where the value is refused.
+fn give_beside(v: Value, number: u32, place: &mut u32)
+    ensures { λ _. ⌜ now (place .exit) ≡ besideValue (valueSays v) number (now (place .entry)) ⌝ }
 {
     match v {
         Value::Bits { width: _ } => {
-            *time = at;
+            *place = number;
         }
         Value::Real { number: _, bits: _ } => {
-            *time = at;
+            *place = number;
         }
         Value::Text {
             start: _,
             length: _,
         } => {
-            *time = at;
+            *place = number;
         }
         Value::NotDriven => {
-            *time = at;
+            *place = number;
         }
         Value::Refused(_) => {}
     }
 }
 
-// A change's time and value; symbols are written into the lent bits buffer.
+// A change's time and value, and whether its padding is 0; symbols are written into the lent bits buffer.
 #[no_mangle]
 pub extern "C" fn lxt_change(
     file: &[u8],
@@ -186,15 +198,18 @@ pub extern "C" fn lxt_change(
     bits: &mut [u8],
     time: &mut u32,
     answer: &mut [u64; 3],
+    clean: &mut u32,
 ) -> u32
-    ensures { λ r. ⌜ r ≡ numberOf (changeAsked (now (file .entry)) facility offset (length (now (bits .entry))) .1) ⌝ }
+    ensures { λ r. ⌜ r ≡ numberOf (changeAsked (now (file .entry)) facility offset (length (now (bits .entry))) .value) ⌝ }
     ensures { λ _. ⌜ now (bits .exit) ≡ changeBuffer (now (file .entry)) facility offset (now (bits .entry)) ⌝ }
     ensures { λ _. ⌜ now (time .exit) ≡ changeTime (changeAsked (now (file .entry)) facility offset (length (now (bits .entry)))) (now (time .entry)) ⌝ }
-    ensures { λ _. ⌜ now (answer .exit) ≡ valueNumbers (changeAsked (now (file .entry)) facility offset (length (now (bits .entry))) .1) (now (answer .entry)) ⌝ }
+    ensures { λ _. ⌜ now (answer .exit) ≡ valueNumbers (changeAsked (now (file .entry)) facility offset (length (now (bits .entry))) .value) (now (answer .entry)) ⌝ }
+    ensures { λ _. ⌜ now (clean .exit) ≡ changeClean (changeAsked (now (file .entry)) facility offset (length (now (bits .entry)))) (now (clean .entry)) ⌝ }
 {
     let t = values::of_change(file, facility, offset, bits);
     let v = t.value;
-    give_time(v, t.time, time);
+    give_beside(v, t.time, time);
+    give_beside(v, yes_no(t.clean), clean);
     give_value(v, answer)
 }
 

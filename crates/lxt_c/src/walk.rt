@@ -4,6 +4,7 @@ ghost use lib.ListN.{length};
 ghost use Rattle.lxt_format.specs.Answers.{startSays, carrySays};
 ghost use Rattle.lxt_format.specs.Questions.{startAsked, startRecord, carryAsked, carryRecord, carryOutput};
 ghost use Rattle.lxt_c.specs.Numbers.{numberOf, carryNumbers};
+use crate::yes_no;
 use lxt_format::CarryAnswer;
 use lxt_format::Pair;
 use lxt_format::StartAnswer;
@@ -34,7 +35,7 @@ fn give_carry(a: CarryAnswer, answer: &mut [u32; 2]) -> u32
 {
     match a {
         CarryAnswer::Handed { count, done } => {
-            *answer = [count, if done { 1 } else { 0 }];
+            *answer = [count, yes_no(done)];
             0
         }
         CarryAnswer::Refused(n) => n as u32,

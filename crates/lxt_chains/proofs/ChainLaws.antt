@@ -1,26 +1,27 @@
 -- The chains of all roots, and what their changes are read with.
 use Prim.Native.Nat.{ℕ, zero, suc, _+_, _-_, _≤_, _<_}
 use mathlib.Core.Path.{_≡_, refl, sym, _∙_, ap}
-use mathlib.Core.Bool.{Bool, true, false, not, false≢true}
+use mathlib.Core.Bool.{Bool, true, false, not, _&&_, and-assoc, and-true, false≢true}
 use mathlib.Core.List.{List, [], _∷_, map}
 use lib.Dec.{leb, lit≤}
 use native.Mathlib.Omega.{arith}
 use native.Mathlib.Numerals.{add-one}
 use Rattle.lxt_format.specs.Limits.{widestFacility}
-use Rattle.lxt_format.specs.Basics.{_orElse_, range, select, firstFault}
+use Rattle.lxt_format.specs.Basics.{_orElse_, range, all, select, firstFault}
 use Rattle.lxt_format.specs.BasicsLaws.{all-range, on-test, range-upto, range-done, fault-next, fault-here}
 use Rattle.lxt_format.specs.Sections.{facilityCount}
 use Rattle.lxt_format.specs.Geometry.{isAlias, msbOf, lsbOf, flagsOf, kindOfFlags, widthBetween, geometryAllowed, geometriesAllowed, factsBy, ownFacts, rootsOf, syncOf}
-use Rattle.lxt_format.specs.Changes.{signal, changeEnd, chainFault}
+use Rattle.lxt_format.specs.Changes.{Signal, signal, changeEnd, chainFault, chainClean}
 use Rattle.lxt_format.specs.ChangesLaws.{end-any}
-use Rattle.lxt_format.specs.Judge.{faultFrom, chainsRefusal, endAt}
+use Rattle.lxt_format.specs.Judge.{faultFrom, cleanFrom, chainsRefusal, allClean, endAt}
 use Rattle.lxt_format.specs.declared.Kind.{Kind}
 use Rattle.lxt_format.specs.declared.Kind.the-variants.{Bits, Integer, Real, Text}
 use Rattle.lxt_format.specs.declared.Facts.{Facts}
 use Rattle.lxt_tables.specs.Stage.{Geometry}
 use Rattle.lxt_tables.proofs.FacilityLaws.{width-fits}
-use Rattle.lxt_changes.specs.Faults.{symbolic, Setting}
-use Rattle.lxt_chains.specs.Reading.{Ready, facilityFault}
+use Rattle.lxt_changes.specs.Faults.{Tells, symbolic, Setting}
+use Rattle.lxt_changes.specs.declared.fault.Verdict.{Verdict}
+use Rattle.lxt_chains.specs.Reading.{Ready, facilityFault, facilityClean}
 use Rattle.lxt_chains.specs.declared.chains.Chains.{Chains}
 
 -- ---- the facts of a root are allowed
@@ -46,6 +47,9 @@ module _ (s : List ℕ) (c : Chains) (w : Ready s c) (f : ℕ) (below : f < c .f
   unfolding geometriesAllowed
   facility-allowed = let n = w .geometry .count in all-range (geometryAllowed s) 0 (facilityCount s) (w .allowed) f (omega arith) (omega arith)
 
+  abbrev read-as : Facts → Signal
+  read-as facts = signal (c .from) (c .end) (facts .kind) (facts .width)
+
   module _ (plain : isAlias s f ≡ false) where
     pub facts-ask : (Geometry s (c .geometry) (c .facilities) × (f < c .facilities)) × ((geometryAllowed s f ≡ true) × (isAlias s f ≡ false))
     facts-ask = ((w .geometry, below), (facility-allowed, plain))
@@ -56,9 +60,9 @@ module _ (s : List ℕ) (c : Chains) (w : Ready s c) (f : ℕ) (below : f < c .f
           let a = facts-allowed s f facility-allowed plain in
           record { within = w .within; last = w .zero; least = λ k. rw e (a .1 (rw e at k)); most = rw e (a .0) }
 
-      pub fault-is : (o r : ℕ) → r ≡ chainFault s (signal (c .from) (c .end) (facts .kind) (facts .width)) o → r ≡ faultFrom s f o
-      unfolding faultFrom
-      fault-is o r q = q ∙ rw (w .from, w .end, e)
+      pub fault-is : (o : ℕ) (r : Verdict) → Tells (chainFault s (read-as facts) o) (chainClean s (read-as facts) o) r → Tells (faultFrom s f o) (cleanFrom s f o) r
+      unfolding faultFrom cleanFrom
+      fault-is o r q = record { number = q .number ∙ rw (w .from, w .end, e); clean = λ z. q .clean z ∙ rw (w .from, w .end, e) }
 
       pub narrow : facts .width ≤ widestFacility
       narrow = rw e (facts-allowed s f facility-allowed plain .0)
@@ -71,16 +75,16 @@ module _ (s : List ℕ) (c : Chains) (w : Ready s c) (f : ℕ) (below : f < c .f
 -- ---- refusals 15 and 16
 
 module _ (s : List ℕ) (f : ℕ) (a : Bool) (ea : a ≡ isAlias s f) where
-  pub alias-fault : a ≡ true → 0 ≡ facilityFault s f
-  unfolding facilityFault
-  alias-fault h = rw (← ea, h)
+  pub alias-fault : a ≡ true → Tells (facilityFault s f) (facilityClean s f) (record { fault = 0; clean = true })
+  unfolding facilityFault facilityClean
+  alias-fault h = record { number = rw (← ea, h); clean = λ z. rw (← ea, h) }
 
   pub plain : a ≡ false → isAlias s f ≡ false
   plain h = sym ea ∙ h
 
-  pub root-fault : a ≡ false → (o : ℕ) → o ≡ syncOf s f → (r : ℕ) → r ≡ faultFrom s f o → r ≡ facilityFault s f
-  unfolding facilityFault
-  root-fault h o eo r er = er ∙ rw (← ea, h, eo)
+  pub root-fault : a ≡ false → (o : ℕ) → o ≡ syncOf s f → (r : Verdict) → Tells (faultFrom s f o) (cleanFrom s f o) r → Tells (facilityFault s f) (facilityClean s f) r
+  unfolding facilityFault facilityClean
+  root-fault h o eo r t = record { number = t .number ∙ rw (← ea, h, eo); clean = λ z. t .clean z ∙ rw (← ea, h, eo) }
 
 -- the first fault of the facilities from i on is that of the roots among them
 same-fault : (s : List ℕ) (i k : ℕ) → firstFault (map (facilityFault s) (range i k)) ≡ firstFault (map (λ g. faultFrom s g (syncOf s g)) (select (λ g. not (isAlias s g)) (range i k)))
@@ -90,28 +94,52 @@ same-fault s i (suc k) =
     let ih = same-fault s (suc i) k in
     on-test (isAlias s i) (λ e. rw e ih) (λ e. rw e (ap (λ x. faultFrom s i (syncOf s i) orElse x) ih))
 
--- the first fault of the facilities from f on
+-- and so is their padding
+same-clean : (s : List ℕ) (i k : ℕ) → all (facilityClean s) (range i k) ≡ all (λ g. cleanFrom s g (syncOf s g)) (select (λ g. not (isAlias s g)) (range i k))
+unfolding range all select facilityClean
+same-clean s i zero = refl
+same-clean s i (suc k) =
+    let ih = same-clean s (suc i) k in
+    on-test (isAlias s i) (λ e. rw e ih) (λ e. rw e (ap (λ x. cleanFrom s i (syncOf s i) && x) ih))
+
+-- the first fault of the facilities from f on, and their padding
 unfoldable pub faultsFrom : List ℕ → ℕ → ℕ → ℕ
 faultsFrom s f n = firstFault (map (facilityFault s) (range f (n - f)))
 
+unfoldable pub cleansFrom : List ℕ → ℕ → ℕ → Bool
+cleansFrom s f n = all (facilityClean s) (range f (n - f))
+
+-- what is left has the first fault of all; clean says so of what has been passed
+pub record Rest (s : List ℕ) (n f : ℕ) (clean : Bool) : Type 0 where
+  pub whole : faultsFrom s f n ≡ chainsRefusal s
+  pub padding : (clean && cleansFrom s f n) ≡ allClean s
+
 module _ (s : List ℕ) (c : Chains) (w : Ready s c) where
-  pub faults-begun : faultsFrom s 0 (c .facilities) ≡ chainsRefusal s
-  unfolding faultsFrom chainsRefusal rootsOf
-  faults-begun = let e : c .facilities - 0 ≡ facilityCount s = (let n = w .geometry .count in omega arith) in rw e (same-fault s 0 (facilityCount s))
+  pub all-rest : Rest s (c .facilities) 0 true
+  unfolding faultsFrom cleansFrom chainsRefusal allClean rootsOf
+  all-rest =
+      let e : c .facilities - 0 ≡ facilityCount s = (let n = w .geometry .count in omega arith) in
+      record { whole = rw e (same-fault s 0 (facilityCount s)); padding = rw e (same-clean s 0 (facilityCount s)) }
 
-module _ (s : List ℕ) (n f : ℕ) (inv : faultsFrom s f n ≡ chainsRefusal s) where
-  pub faults-end : n ≤ f → 0 ≡ chainsRefusal s
-  unfolding faultsFrom firstFault
-  faults-end h = rw (range-done f n h) at inv
+module _ (s : List ℕ) (n f : ℕ) (clean : Bool) (rest : Rest s n f clean) where
+  pub none-left : n ≤ f → Tells (chainsRefusal s) (allClean s) (record { fault = 0; clean = clean })
+  unfolding faultsFrom cleansFrom firstFault all
+  none-left h =
+      record { number = rw (range-done f n h) at (rest .whole); clean = λ z. sym (and-true clean) ∙ (rw (range-done f n h) at (rest .padding)) }
 
-  module _ (below : f < n) (r : ℕ) (er : r ≡ facilityFault s f) where
+  module _ (below : f < n) (r : Verdict) (t : Tells (facilityFault s f) (facilityClean s f) r) where
     unfolded : firstFault (facilityFault s f ∷ map (facilityFault s) (range (suc f) (n - suc f))) ≡ chainsRefusal s
     unfolding faultsFrom
-    unfolded = rw (range-upto f n below) at inv
+    unfolded = rw (range-upto f n below) at (rest .whole)
 
-    pub fault-given : (r ≡ 0 → ⊥) → r ≡ chainsRefusal s
-    fault-given q = er ∙ sym (fault-here _ _ (λ z. q (er ∙ z))) ∙ unfolded
+    pub fault-given : (r .fault ≡ 0 → ⊥) → Tells (chainsRefusal s) (allClean s) r
+    fault-given q =
+        record { number = t .number ∙ sym (fault-here _ _ (λ z. q (t .number ∙ z))) ∙ unfolded; clean = λ z. absurd (q z) }
 
-    pub facility-passed : r ≡ 0 → faultsFrom s (f + 1) n ≡ chainsRefusal s
-    unfolding faultsFrom
-    facility-passed z = rw (add-one f) (sym (fault-next _ _ (sym er ∙ z)) ∙ unfolded)
+    pub facility-passed : r .fault ≡ 0 → Rest s n (f + 1) (clean && r .clean)
+    unfolding faultsFrom cleansFrom all
+    facility-passed z =
+        record {
+          whole = rw (add-one f) (sym (fault-next _ _ (sym (t .number) ∙ z)) ∙ unfolded);
+          padding = rw (add-one f, t .clean z) (and-assoc clean (facilityClean s f) _ ∙ (rw (range-upto f n below) at (rest .padding)));
+        }

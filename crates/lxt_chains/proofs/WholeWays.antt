@@ -7,12 +7,13 @@ use lib.ListN.{length}
 use native.Mathlib.Omega.{arith}
 use Rattle.lxt_format.specs.Basics.{_unless_, _orElse_}
 use Rattle.lxt_format.specs.BasicsLaws.{stops}
-use Rattle.lxt_format.specs.Judge.{tablesRefusal, chainsRefusal, changesApart, fileRefusal}
+use Rattle.lxt_format.specs.Judge.{tablesRefusal, chainsRefusal, changesApart, fileRefusal, allClean}
 use Rattle.lxt_tables.specs.Stage.{tablesOf}
 use Rattle.lxt_tables.specs.declared.Tables.{Tables}
 use Rattle.lxt_tables.proofs.TablesLaws.{known, refusal-is}
-use Rattle.lxt_changes.specs.Faults.{LastZero}
-use Rattle.lxt_chains.specs.Reading.{Ready}
+use Rattle.lxt_changes.specs.Faults.{LastZero, Tells}
+use Rattle.lxt_changes.specs.declared.fault.Verdict.{Verdict}
+use Rattle.lxt_chains.specs.Reading.{Ready, Judged}
 
 module _ (s : List ℕ) (t : Tables) (e : t ≡ tablesOf s) where
   -- what the chains are read with
@@ -36,26 +37,34 @@ module _ (s : List ℕ) (t : Tables) (e : t ≡ tablesOf s) where
       }
 
   -- the tables are refused
-  pub tables-refused : (t .refusal ≡ 0 → ⊥) → t .refusal ≡ fileRefusal s
+  pub tables-refused : (t .refusal ≡ 0 → ⊥) → Judged s (record { refusal = t .refusal; clean = false; tables = t })
   unfolding fileRefusal
-  tables-refused n = refusal-is s t e ∙ sym (stops (tablesRefusal s) _ (λ z. n (refusal-is s t e ∙ z)))
+  tables-refused n =
+      record {
+        refusal = refusal-is s t e ∙ sym (stops (tablesRefusal s) _ (λ z. n (refusal-is s t e ∙ z)));
+        clean = λ z. absurd (n z);
+        tables = e;
+      }
+
+  pub tables-accepted : (v : Verdict) → Tells (fileRefusal s) (allClean s) v → Judged s (record { refusal = v .fault; clean = v .clean; tables = t })
+  tables-accepted v a = record { refusal = a .number; clean = a .clean; tables = e }
 
   module _ (h : t .refusal ≡ 0) where
     tables-pass : fileRefusal s ≡ (chainsRefusal s orElse 17 unless changesApart s)
     unfolding fileRefusal
     tables-pass = let z : tablesRefusal s ≡ 0 = sym (refusal-is s t e) ∙ h in rw z
 
-    module _ (b : ℕ) (eb : b ≡ chainsRefusal s) where
-      pub chain-refused : (b ≡ 0 → ⊥) → b ≡ fileRefusal s
-      chain-refused n = eb ∙ sym (tables-pass ∙ stops (chainsRefusal s) _ (λ z. n (eb ∙ z)))
+    module _ (v : Verdict) (a : Tells (chainsRefusal s) (allClean s) v) where
+      pub chain-refused : (v .fault ≡ 0 → ⊥) → Tells (fileRefusal s) (allClean s) v
+      chain-refused n = record { number = a .number ∙ sym (tables-pass ∙ stops (chainsRefusal s) _ (λ z. n (a .number ∙ z))); clean = a .clean }
 
-      module _ (hb : b ≡ 0) where
+      module _ (hv : v .fault ≡ 0) where
         pub chains-pass : chainsRefusal s ≡ 0
-        chains-pass = sym eb ∙ hb
+        chains-pass = sym (a .number) ∙ hv
 
         module _ (z : Bool) (ez : z ≡ changesApart s) where
-          pub overlap : z ≡ false → 17 ≡ fileRefusal s
-          overlap q = sym (tables-pass ∙ rw (chains-pass, ← ez, q))
+          pub overlap : z ≡ false → Tells (fileRefusal s) (allClean s) (record { fault = 17; clean = false })
+          overlap q = record { number = sym (tables-pass ∙ rw (chains-pass, ← ez, q)); clean = λ n. absurd (omega arith) }
 
-          pub all-pass : z ≡ true → 0 ≡ fileRefusal s
-          all-pass q = sym (tables-pass ∙ rw (chains-pass, ← ez, q))
+          pub all-pass : z ≡ true → Tells (fileRefusal s) (allClean s) v
+          all-pass q = record { number = hv ∙ sym (tables-pass ∙ rw (chains-pass, ← ez, q)); clean = a .clean }

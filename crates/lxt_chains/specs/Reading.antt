@@ -1,20 +1,21 @@
 -- What the functions of this crate ask of a file and of what it is read with.
 use Prim.Native.Nat.{ℕ, _≤_, _<_}
 use mathlib.Core.Path.{_≡_}
-use mathlib.Core.Bool.{true, false}
+use mathlib.Core.Bool.{Bool, true, false}
 use mathlib.Core.List.{List}
 use lib.ListN.{length, getD}
 use Rattle.lxt_format.specs.Limits.{longestFile, mostFacilities}
 use Rattle.lxt_format.specs.Sections.{endOf, changesFrom}
 use Rattle.lxt_format.specs.Basics.{if_then_else_}
 use Rattle.lxt_format.specs.Geometry.{isAlias, geometriesAllowed, syncOf}
-use Rattle.lxt_format.specs.Judge.{faultFrom}
+use Rattle.lxt_format.specs.Judge.{faultFrom, cleanFrom, fileRefusal, allClean}
 use Rattle.lxt_format.specs.Walk.{sort}
-use Rattle.lxt_tables.specs.Stage.{Geometry}
+use Rattle.lxt_tables.specs.Stage.{Geometry, tablesOf}
 use Rattle.lxt_tables.specs.Asked.{Sync}
 use Rattle.lxt_changes.specs.Faults.{LastZero}
 use Rattle.lxt_chains.specs.Pending.{pendingChanges, Each, Allowed}
 use Rattle.lxt_chains.specs.declared.chains.Chains.{Chains}
+use Rattle.lxt_chains.specs.declared.whole.Examined.{Examined}
 
 -- the places of a file that refusals 1 to 14 pass
 pub record Ready (s : List ℕ) (c : Chains) : Type 0 where
@@ -39,6 +40,10 @@ pub record Stepping (s : List ℕ) (c : Chains) (f o bound : ℕ) : Type 0 where
 unfoldable pub facilityFault : List ℕ → ℕ → ℕ
 facilityFault s f = if isAlias s f then 0 else faultFrom s f (syncOf s f)
 
+-- and whether its padding was clean
+unfoldable pub facilityClean : List ℕ → ℕ → Bool
+facilityClean s f = if isAlias s f then true else cleanFrom s f (syncOf s f)
+
 -- the pending offset from which all changes of a facility follow
 unfoldable pub rootOffset : List ℕ → ℕ → ℕ
 rootOffset s f = if isAlias s f then 0 else syncOf s f
@@ -53,3 +58,9 @@ pub record Readable (s os : List ℕ) : Type 0 where
 pub record Pending (s : List ℕ) (c : Chains) (os : List ℕ) : Type 0 where
   pub past : (i : ℕ) → c .facilities ≤ i → getD os i 0 ≡ 0
   pub each : Each (Allowed s) (sort (pendingChanges s 0 os))
+
+-- a judged file: its refusal; where it has none, whether its padding was clean; and its tables
+pub record Judged (s : List ℕ) (r : Examined) : Type 0 where
+  pub refusal : r .refusal ≡ fileRefusal s
+  pub clean : r .refusal ≡ 0 → r .clean ≡ allClean s
+  pub tables : r .tables ≡ tablesOf s

@@ -1,11 +1,13 @@
-// The chains of all roots: refusals 15 and 16.
+// The chains of all roots: refusals 15 and 16, and whether their padding is 0.
 ghost use mathlib.Core.Path.{_≡_};
 ghost use mathlib.Core.Bool.{true, false};
 ghost use Prim.Native.Nat.{_≤_, _<_};
 ghost use Rattle.lxt_format.specs.Geometry.{isAlias};
-ghost use Rattle.lxt_format.specs.Judge.{faultFrom, chainsRefusal};
-ghost use Rattle.lxt_chains.specs.Reading.{Ready, facilityFault};
+ghost use Rattle.lxt_format.specs.Judge.{faultFrom, cleanFrom, chainsRefusal, allClean};
+ghost use Rattle.lxt_chains.specs.Reading.{Ready, facilityFault, facilityClean};
+ghost use Rattle.lxt_changes.specs.Faults.{Tells};
 use lxt_changes::fault;
+use lxt_changes::fault::Verdict;
 use lxt_tables::geometry;
 
 // What the chains of a file are read with: n, C, T, one past the last zero before T, and where the
@@ -19,40 +21,48 @@ pub struct Chains {
     pub sync: usize,
 }
 
-// The first fault of the chain that starts at `o`, read with the kind and width of the root `f`.
-pub fn fault_from(file: &[u8], c: Chains, f: u32, o: u32) -> u8
+// The verdict on the chain that starts at `o`, read with the kind and width of the root `f`.
+pub fn fault_from(file: &[u8], c: Chains, f: u32, o: u32) -> Verdict
     requires { ⌜ Ready (now file) c × ((f < c .facilities) × (isAlias (now file) f ≡ false)) ⌝ }
-    ensures { λ r. ⌜ r ≡ faultFrom (now (file .entry)) f o ⌝ }
+    ensures { λ r. ⌜ Tells (faultFrom (now (file .entry)) f o) (cleanFrom (now (file .entry)) f o) r ⌝ }
 {
     let facts = geometry::own_facts(file, c.geometry, c.facilities, f);
     let kind = facts.kind;
     fault::first_fault(file, c.from, c.end, c.zero, kind, facts.width, o as usize)
 }
 
-// The first fault of a facility's own chain, or 0; an alias has none.
-fn facility_fault(file: &[u8], c: Chains, f: u32) -> u8
+// The verdict on a facility's own chain; an alias has none.
+fn facility_fault(file: &[u8], c: Chains, f: u32) -> Verdict
     requires { ⌜ Ready (now file) c × (f < c .facilities) ⌝ }
-    ensures { λ r. ⌜ r ≡ facilityFault (now (file .entry)) f ⌝ }
+    ensures { λ r. ⌜ Tells (facilityFault (now (file .entry)) f) (facilityClean (now (file .entry)) f) r ⌝ }
 {
     if geometry::is_alias(file, c.geometry, c.facilities, f) {
-        return 0;
+        return Verdict {
+            fault: 0,
+            clean: true,
+        };
     }
     let start = geometry::sync_of(file, c.sync, c.facilities, f);
     fault_from(file, c, f, start)
 }
 
-// Refusals 15 and 16 of the roots in order, or 0.
-pub fn first_fault(file: &[u8], c: Chains) -> u8
+// Refusals 15 and 16 of the roots in order, or 0 and whether the padding of all changes is 0.
+pub fn first_fault(file: &[u8], c: Chains) -> Verdict
     requires { ⌜ Ready (now file) c ⌝ }
-    ensures { λ r. ⌜ r ≡ chainsRefusal (now (file .entry)) ⌝ }
+    ensures { λ r. ⌜ Tells (chainsRefusal (now (file .entry))) (allClean (now (file .entry))) r ⌝ }
 {
     let mut f = 0;
+    let mut clean = true;
     while f < c.facilities {
         let found = facility_fault(file, c, f);
-        if found != 0 {
+        if found.fault != 0 {
             return found;
         }
+        clean = clean & found.clean;
         f += 1;
     }
-    0
+    Verdict {
+        fault: 0,
+        clean: clean,
+    }
 }

@@ -1,12 +1,14 @@
-// A whole file: refusals 1 to 17, or its tables.
+// A whole file: refusals 1 to 17, or its tables and whether its padding is 0.
 ghost use mathlib.Core.Path.{_≡_};
-ghost use Rattle.lxt_format.specs.Judge.{fileRefusal};
+ghost use Rattle.lxt_format.specs.Judge.{fileRefusal, allClean};
 ghost use Rattle.lxt_tables.specs.Stage.{tablesOf};
-ghost use Rattle.lxt_chains.specs.Reading.{Ready};
+ghost use Rattle.lxt_changes.specs.Faults.{Tells};
+ghost use Rattle.lxt_chains.specs.Reading.{Ready, Judged};
 use crate::apart;
 use crate::chains;
 use crate::chains::Chains;
 use lxt_changes::fault;
+use lxt_changes::fault::Verdict;
 use lxt_tables::Tables;
 
 // What the chains of a file are read with, once its tables have passed.
@@ -25,40 +27,47 @@ pub fn chains_of(file: &[u8], t: Tables) -> Chains
     }
 }
 
-// Refusals 15 to 17, or 0, once the tables have passed.
-fn chains_refusal(file: &[u8], t: Tables) -> u8
+// Refusals 15 to 17, or 0 and whether the padding of all changes is 0, once the tables have passed.
+fn chains_refusal(file: &[u8], t: Tables) -> Verdict
     requires { ⌜ (t ≡ tablesOf (now file)) × (t .refusal ≡ 0) ⌝ }
-    ensures { λ r. ⌜ r ≡ fileRefusal (now (file .entry)) ⌝ }
+    ensures { λ r. ⌜ Tells (fileRefusal (now (file .entry))) (allClean (now (file .entry))) r ⌝ }
 {
     let c = chains_of(file, t);
-    let bad = chains::first_fault(file, c);
-    if bad != 0 {
-        return bad;
+    let found = chains::first_fault(file, c);
+    if found.fault != 0 {
+        return found;
     }
     if !apart::all_apart(file, c) {
-        return 17;
+        return Verdict {
+            fault: 17,
+            clean: false,
+        };
     }
-    0
+    found
 }
 
-// A judged file: its refusal, or 0, and its tables.
+// A judged file: its refusal, or 0 and whether its padding is 0; and its tables.
 pub struct Examined {
     pub refusal: u8,
+    pub clean: bool,
     pub tables: Tables,
 }
 
 pub fn judged(file: &[u8]) -> Examined
-    ensures { λ r. ⌜ (r .refusal ≡ fileRefusal (now (file .entry))) × (r .tables ≡ tablesOf (now (file .entry))) ⌝ }
+    ensures { λ r. ⌜ Judged (now (file .entry)) r ⌝ }
 {
     let t = lxt_tables::whole::tables(file);
     if t.refusal != 0 {
         return Examined {
             refusal: t.refusal,
+            clean: false,
             tables: t,
         };
     }
+    let found = chains_refusal(file, t);
     Examined {
-        refusal: chains_refusal(file, t),
+        refusal: found.fault,
+        clean: found.clean,
         tables: t,
     }
 }

@@ -2,7 +2,7 @@
 use Prim.Native.Nat.{ℕ, zero, suc, _+_, _-_, _≤_, _<_, _%_, zero-le}
 use mathlib.Core.Path.{_≡_, refl, sym, _∙_, ap}
 use mathlib.Core.Logic.{_⊎_, inl, inr}
-use mathlib.Core.Bool.{Bool, true, false, _&&_, and-false}
+use mathlib.Core.Bool.{Bool, true, false, _&&_, and-assoc, and-true, and-false}
 use mathlib.Core.List.{List, []}
 use lib.ListN.{length, getD}
 use lib.Seq.{slice, getD-drop, getD-take, length-slice}
@@ -14,16 +14,17 @@ use Rattle.lxt_format.specs.Limits.{widestFacility}
 use Rattle.lxt_format.specs.Basics.{_unless_, _orElse_}
 use Rattle.lxt_format.specs.Bytes.{byteAt, toZero}
 use Rattle.lxt_format.specs.BasicsLaws.{neither, kept, stops, and-both}
-use Rattle.lxt_format.specs.ChangesLaws.{previous-lt, faults-none, faults-next, faults-here, sound}
+use Rattle.lxt_format.specs.ChangesLaws.{previous-lt, faults-none, faults-next, faults-here, clean-none, clean-next, sound}
 use Rattle.lxt_format.specs.BytesLaws.{at-zero, zero-bounds}
-use Rattle.lxt_format.specs.Changes.{signal, commandOf, dataAt, previousOf, commandAllowed, symbolSize, packedSize, symbolsAllowed, dataSize, dataAllowed, changeEnd, previousAllowed, faultAt, chainFault}
+use Rattle.lxt_format.specs.Changes.{Signal, signal, commandOf, dataAt, previousOf, commandAllowed, symbolSize, packedSize, codesAllowed, paddingClean, dataSize, dataAllowed, cleanAt, changeEnd, previousAllowed, faultAt, chainFault, chainClean}
 use Rattle.lxt_format.specs.declared.Kind.{Kind}
 use Rattle.lxt_format.specs.declared.Kind.the-variants.{Bits, Integer, Real, Text}
 use Rattle.lxt_changes.specs.Windows.{Known, Answered, Data}
-use Rattle.lxt_changes.specs.Faults.{LastZero, startFault, bodyFault, symbolFault, Found, symbolic, Setting}
+use Rattle.lxt_changes.specs.Faults.{LastZero, startFault, bodyFault, symbolFault, symbolClean, Found, Tells, symbolic, Setting}
 use Rattle.lxt_changes.specs.declared.symbols.Window.{Window}
 use Rattle.lxt_changes.specs.declared.symbols.Checked.{Checked}
 use Rattle.lxt_changes.specs.declared.fault.Faulted.{Faulted}
+use Rattle.lxt_changes.specs.declared.fault.Verdict.{Verdict}
 
 -- ---- the last zero
 
@@ -91,29 +92,35 @@ module _ (s : List ℕ) (T width o : ℕ) (b size at : ℕ) (eb : b ≡ symbolSi
   end-is = rw (es, eb, ea)
 
   module _ (w : Window) (k : Known s w) where
-    pub symbols-out : T < at + size → Found s (symbolFault s T width o) (record { fault = 15; window = w })
+    pub symbols-out : T < at + size → Found s (symbolFault s T width o) (symbolClean s width o) (record { fault = 15; clean = false; window = w })
     unfolding symbolFault
-    symbols-out h = record { number = (let g : T < dataAt s o + packedSize (symbolSize (commandOf s o)) width = rw end-is h in simp (lt-leb _ _ g)); known = k }
+    symbols-out h =
+        record {
+          number = (let g : T < dataAt s o + packedSize (symbolSize (commandOf s o)) width = rw end-is h in simp (lt-leb _ _ g));
+          clean = λ z. absurd (omega arith);
+          known = k;
+        }
 
   module _ (h : at + size ≤ T) where
     pub data-there : 1 ≤ width → width ≤ widestFacility → T ≤ length s → Data s b width at
     data-there least most fits = record { symbols = rw eb (symbol-cases (byteAt s o % 16)); least = least; most = most; inside = rw (← es) (omega arith) }
 
-    module _ (c : Checked) (a : Answered s (symbolsAllowed s b width at) c) where
-      allowed-is : c .allowed ≡ symbolsAllowed s (symbolSize (commandOf s o)) width (dataAt s o)
+    module _ (c : Checked) (a : Answered s (codesAllowed s b width at) c) where
+      allowed-is : c .allowed ≡ codesAllowed s (symbolSize (commandOf s o)) width (dataAt s o)
       unfolding commandOf
       allowed-is = a .answer ∙ rw (eb, ea)
 
       fits : leb (dataAt s o + packedSize (symbolSize (commandOf s o)) width) T ≡ true
       fits = rw end-is (le-leb _ _ h)
 
-      pub symbols-wrong : c .allowed ≡ false → Found s (symbolFault s T width o) (record { fault = 16; window = c .window })
+      pub symbols-wrong : c .allowed ≡ false → Found s (symbolFault s T width o) (symbolClean s width o) (record { fault = 16; clean = false; window = c .window })
       unfolding symbolFault
-      symbols-wrong e = record { number = simp (fits, ← allowed-is, e); known = a .known }
+      symbols-wrong e = record { number = simp (fits, ← allowed-is, e); clean = λ z. absurd (omega arith); known = a .known }
 
-      pub symbols-right : c .allowed ≡ true → Found s (symbolFault s T width o) (record { fault = 0; window = c .window })
-      unfolding symbolFault
-      symbols-right e = record { number = simp (fits, ← allowed-is, e); known = a .known }
+      pub symbols-right : c .allowed ≡ true → (z : Bool) → z ≡ paddingClean s b width at
+          → Found s (symbolFault s T width o) (symbolClean s width o) (record { fault = 0; clean = z; window = c .window })
+      unfolding symbolFault symbolClean commandOf
+      symbols-right e z ez = record { number = simp (fits, ← allowed-is, e); clean = λ q. ez ∙ rw (eb, ea); known = a .known }
 
 -- ---- reals and texts
 
@@ -176,21 +183,25 @@ width-least s T z kind width t (inl e) = t .least (rw e)
 width-least s T z kind width t (inr e) = t .least (rw e)
 
 module _ (s : List ℕ) (T z : ℕ) (kind : Kind) (width o : ℕ) (w : Window) (t : Setting s T z kind width) (k : Known s w) where
-  pub bits-body : kind ≡ Bits → (r : Faulted) → Found s (symbolFault s T width o) r → Found s (bodyFault s T kind width o) r
-  unfolding symbolFault bodyFault changeEnd dataSize dataAllowed
-  bits-body e r f = record { number = rw e (f .number); known = f .known }
+  pub bits-body : kind ≡ Bits → (r : Faulted) → Found s (symbolFault s T width o) (symbolClean s width o) r
+      → Found s (bodyFault s T kind width o) (cleanAt s (signal 0 T kind width) o) r
+  unfolding symbolFault symbolClean bodyFault changeEnd dataSize dataAllowed cleanAt
+  bits-body e r f = record { number = rw e (f .number); clean = λ z. rw e (f .clean z); known = f .known }
 
-  pub integer-body : kind ≡ Integer → (r : Faulted) → Found s (symbolFault s T width o) r → Found s (bodyFault s T kind width o) r
-  unfolding symbolFault bodyFault changeEnd dataSize dataAllowed
-  integer-body e r f = record { number = rw e (f .number); known = f .known }
+  pub integer-body : kind ≡ Integer → (r : Faulted) → Found s (symbolFault s T width o) (symbolClean s width o) r
+      → Found s (bodyFault s T kind width o) (cleanAt s (signal 0 T kind width) o) r
+  unfolding symbolFault symbolClean bodyFault changeEnd dataSize dataAllowed cleanAt
+  integer-body e r f = record { number = rw e (f .number); clean = λ z. rw e (f .clean z); known = f .known }
 
-  pub real-body : kind ≡ Real → (v : ℕ) → v ≡ bodyFault s T Real 0 o → Found s (bodyFault s T kind width o) (record { fault = v; window = w })
-  unfolding bodyFault changeEnd dataSize dataAllowed
-  real-body e v f = record { number = rw e f; known = k }
+  pub real-body : kind ≡ Real → (v : ℕ) → v ≡ bodyFault s T Real 0 o
+      → Found s (bodyFault s T kind width o) (cleanAt s (signal 0 T kind width) o) (record { fault = v; clean = true; window = w })
+  unfolding bodyFault changeEnd dataSize dataAllowed cleanAt
+  real-body e v f = record { number = rw e f; clean = λ z. rw e; known = k }
 
-  pub text-body : kind ≡ Text → (v : ℕ) → v ≡ bodyFault s T Text 0 o → Found s (bodyFault s T kind width o) (record { fault = v; window = w })
-  unfolding bodyFault changeEnd dataSize dataAllowed
-  text-body e v f = record { number = rw e f; known = k }
+  pub text-body : kind ≡ Text → (v : ℕ) → v ≡ bodyFault s T Text 0 o
+      → Found s (bodyFault s T kind width o) (cleanAt s (signal 0 T kind width) o) (record { fault = v; clean = true; window = w })
+  unfolding bodyFault changeEnd dataSize dataAllowed cleanAt
+  text-body e v f = record { number = rw e f; clean = λ z. rw e; known = k }
 
 -- ---- all tests of a change
 
@@ -210,7 +221,13 @@ body-ends s T kind width o h =
     omega arith
 
 module _ (s : List ℕ) (C T : ℕ) (kind : Kind) (width o : ℕ) where
-  tests : faultAt s (signal C T kind width) o ≡ (startFault s C T kind o orElse (bodyFault s T kind width o orElse 15 unless previousAllowed s C o))
+  abbrev fault : ℕ
+  fault = faultAt s (signal C T kind width) o
+
+  abbrev padding : Bool
+  padding = cleanAt s (signal C T kind width) o
+
+  tests : fault ≡ (startFault s C T kind o orElse (bodyFault s T kind width o orElse 15 unless previousAllowed s C o))
   unfolding faultAt startFault bodyFault changeEnd dataSize dataAllowed
   tests =
       in-two (15 unless (leb C o && ltb o T)) (16 unless (ltb (byteAt s o) 0x40 && commandAllowed kind (commandOf s o)))
@@ -225,56 +242,77 @@ module _ (s : List ℕ) (C T : ℕ) (kind : Kind) (width o : ℕ) where
       ltb-true o T (b .1)
 
   module _ (v : ℕ) (ev : v ≡ startFault s C T kind o) where
-    pub bad-start : (w : Window) → Known s w → (v ≡ 0 → ⊥) → Found s (faultAt s (signal C T kind width) o) (record { fault = v; window = w })
-    bad-start w k n = record { number = sym (tests ∙ rw (← ev) (stops v _ n)); known = k }
+    pub bad-start : (w : Window) → Known s w → (v ≡ 0 → ⊥) → Found s fault padding (record { fault = v; clean = false; window = w })
+    bad-start w k n = record { number = sym (tests ∙ rw (← ev) (stops v _ n)); clean = λ z. absurd (n z); known = k }
 
-    module _ (hv : v ≡ 0) (r : Faulted) (f : Found s (bodyFault s T kind width o) r) where
-      rest : faultAt s (signal C T kind width) o ≡ (r .fault orElse 15 unless previousAllowed s C o)
+    module _ (hv : v ≡ 0) (r : Faulted) (f : Found s (bodyFault s T kind width o) (cleanAt s (signal 0 T kind width) o) r) where
+      rest : fault ≡ (r .fault orElse 15 unless previousAllowed s C o)
       rest = tests ∙ rw (← ev, hv, f .number)
 
-      pub bad-body : (r .fault ≡ 0 → ⊥) → Found s (faultAt s (signal C T kind width) o) r
-      bad-body n = record { number = sym (rest ∙ stops (r .fault) _ n); known = f .known }
+      -- whether padding was clean does not depend on C
+      padded : r .fault ≡ 0 → r .clean ≡ padding
+      unfolding cleanAt
+      padded = f .clean
+
+      pub bad-body : (r .fault ≡ 0 → ⊥) → Found s fault padding r
+      bad-body n = record { number = sym (rest ∙ stops (r .fault) _ n); clean = padded; known = f .known }
 
       pub body-inside : r .fault ≡ 0 → T ≤ length s → dataAt s o ≤ length s
       body-inside z l = let b = body-ends s T kind width o (sym (f .number) ∙ z) in omega arith
 
       module _ (z : r .fault ≡ 0) (q : Bool) (eq : q ≡ previousAllowed s C o) where
-        pub bad-previous : q ≡ false → Found s (faultAt s (signal C T kind width) o) (record { fault = 15; window = r .window })
-        bad-previous h = record { number = sym (rest ∙ rw (z, ← eq, h)); known = f .known }
+        pub bad-previous : q ≡ false → Found s fault padding (record { fault = 15; clean = false; window = r .window })
+        bad-previous h = record { number = sym (rest ∙ rw (z, ← eq, h)); clean = λ e. absurd (omega arith); known = f .known }
 
-        pub no-fault : q ≡ true → Found s (faultAt s (signal C T kind width) o) (record { fault = 0; window = r .window })
-        no-fault h = record { number = sym (rest ∙ rw (z, ← eq, h)); known = f .known }
+        pub no-fault : q ≡ true → Found s fault padding (record { fault = 0; clean = r .clean; window = r .window })
+        no-fault h = record { number = sym (rest ∙ rw (z, ← eq, h)); clean = λ e. padded z; known = f .known }
 
 -- ---- a chain
 
--- what is left of a chain has the first fault of the whole
-pub record Left (s : List ℕ) (C T : ℕ) (kind : Kind) (width start o : ℕ) (w : Window) : Type 0 where
-  pub known : Known s w
-  pub whole : chainFault s (signal C T kind width) o ≡ chainFault s (signal C T kind width) start
-
 module _ (s : List ℕ) (C T : ℕ) (kind : Kind) (width start : ℕ) where
-  pub at-start : Left s C T kind width start start (record { from = 0; to = 0 })
-  at-start = record { known = record { good = λ i a b. absurd (omega arith); within = zero-le }; whole = refl }
+  abbrev g : Signal
+  g = signal C T kind width
 
-  module _ (o : ℕ) (w : Window) (l : Left s C T kind width start o w) where
-    pub at-end : o ≡ 0 → 0 ≡ chainFault s (signal C T kind width) start
-    at-end e = sym (faults-none s (signal C T kind width)) ∙ (rw e at (l .whole))
+  -- what is left of a chain has the first fault of the whole; clean says so of what has been passed
+  pub record Left (o : ℕ) (clean : Bool) (w : Window) : Type 0 where
+    pub known : Known s w
+    pub whole : chainFault s g o ≡ chainFault s g start
+    pub padding : (clean && chainClean s g o) ≡ chainClean s g start
 
-    module _ (some : o ≡ 0 → ⊥) (r : Faulted) (f : Found s (faultAt s (signal C T kind width) o) r) where
-      pub fault-found : (r .fault ≡ 0 → ⊥) → r .fault ≡ chainFault s (signal C T kind width) start
-      fault-found n = f .number ∙ sym (faults-here s (signal C T kind width) o (omega arith) (λ z. n (f .number ∙ z))) ∙ l .whole
+  pub at-start : Left start true (record { from = 0; to = 0 })
+  at-start = record { known = record { good = λ i a b. absurd (omega arith); within = zero-le }; whole = refl; padding = refl }
+
+  module _ (o : ℕ) (clean : Bool) (w : Window) (l : Left o clean w) where
+    pub at-end : o ≡ 0 → Tells (chainFault s g start) (chainClean s g start) (record { fault = 0; clean = clean })
+    at-end e =
+        record {
+          number = sym (faults-none s g) ∙ (rw e at (l .whole));
+          clean = λ z. sym (and-true clean) ∙ (rw (e, clean-none s g) at (l .padding));
+        }
+
+    module _ (some : o ≡ 0 → ⊥) (r : Faulted) (f : Found s (faultAt s g o) (cleanAt s g o) r) where
+      pub fault-found : (r .fault ≡ 0 → ⊥) → Tells (chainFault s g start) (chainClean s g start) (record { fault = r .fault; clean = false })
+      fault-found n =
+          record {
+            number = f .number ∙ sym (faults-here s g o (omega arith) (λ z. n (f .number ∙ z))) ∙ l .whole;
+            clean = λ z. absurd (n z);
+          }
 
       pub inside : r .fault ≡ 0 → T ≤ length s → (o < length s) × (dataAt s o ≤ length s)
       inside z fits =
-          let g = sound s (signal C T kind width) o (sym (f .number) ∙ z) in
-          let a = g .before in
-          let b = g .ends in
-          let c : dataAt s o ≤ changeEnd s (signal C T kind width) o = (unfold changeEnd in omega arith) in
+          let d = sound s g o (sym (f .number) ∙ z) in
+          let a = d .before in
+          let b = d .ends in
+          let c : dataAt s o ≤ changeEnd s g o = (unfold changeEnd in omega arith) in
           (omega arith, omega arith)
 
-      pub next-left : r .fault ≡ 0 → (p : ℕ) → p ≡ previousOf s o → Left s C T kind width start p (r .window)
+      pub next-left : r .fault ≡ 0 → (p : ℕ) → p ≡ previousOf s o → Left p (clean && r .clean) (r .window)
       next-left z p e =
-          record { known = f .known; whole = rw e (sym (faults-next s (signal C T kind width) o (omega arith) (sym (f .number) ∙ z)) ∙ l .whole) }
+          record {
+            known = f .known;
+            whole = rw e (sym (faults-next s g o (omega arith) (sym (f .number) ∙ z)) ∙ l .whole);
+            padding = rw (e, f .clean z) (and-assoc clean (cleanAt s g o) _ ∙ (rw (clean-next s g o (omega arith)) at (l .padding)));
+          }
 
       pub falls : (p : ℕ) → p ≡ previousOf s o → p < o
       falls p e = let a = previous-lt s o (omega arith) in omega arith

@@ -1,5 +1,6 @@
 pub mod DeltaLaws
 pub mod SymbolLaws
 pub mod CodeLaws
+pub mod PaddingLaws
 pub mod FaultLaws
 pub mod EndLaws

@@ -14,7 +14,7 @@ use Rattle.lxt_format.specs.Limits.{widestFacility}
 use Rattle.lxt_format.specs.Basics.{range, all}
 use Rattle.lxt_format.specs.BasicsLaws.{range-all, all-range, on-test}
 use Rattle.lxt_format.specs.Bytes.{byteAt}
-use Rattle.lxt_format.specs.Changes.{commandAllowed, symbolSize, packedSize, paddingAllowed}
+use Rattle.lxt_format.specs.Changes.{commandAllowed, symbolSize, packedSize}
 use Rattle.lxt_changes.specs.Windows.{goodByte, allGood, Good, Scanned, Known, Answered}
 use Rattle.lxt_changes.specs.declared.symbols.Window.{Window}
 use Rattle.lxt_format.specs.declared.Kind.{Kind}
@@ -67,34 +67,6 @@ product b width h k = mul-le-mul h k
 pub packed-is : (b width : ℕ) → b ≤ 4 → width ≤ widestFacility → ((b * width + 7) / 8 ≡ packedSize b width) × ((b * width + 7) / 8 ≤ 2048)
 unfolding packedSize
 packed-is b width h k = (refl, omega (arith, product b width h k))
-
--- the power of 2 for each number of bits
-pub power : (k j : ℕ) → k ≡ j → 0 < 2 ^ j → (2 ^ j ≡ 2 ^ k) × (0 < 2 ^ j)
-power k j e p = (rw e, p)
-
-above : (k j : ℕ) → j ≤ k → (k ≡ j → ⊥) → suc j ≤ k
-above k j h n = omega arith
-
-eighth : (k : ℕ) → 7 ≤ k → k < 8 → k ≡ 7
-eighth k h l = omega arith
-
--- the last of the eight
-pub seven : (k : ℕ) → k < 8 → (k ≡ 0 → ⊥) → (k ≡ 1 → ⊥) → (k ≡ 2 → ⊥) → (k ≡ 3 → ⊥) → (k ≡ 4 → ⊥) → (k ≡ 5 → ⊥) → (k ≡ 6 → ⊥) → k ≡ 7
-seven k l a b c d e f g = eighth k (above k 6 (above k 5 (above k 4 (above k 3 (above k 2 (above k 1 (above k 0 zero-le a) b) c) d) e) f) g) l
-
--- the unused bits of the last byte are fewer than 8, and there is such a byte
-pub unused-lt : (b width size : ℕ) → size ≡ packedSize b width → (b * width ≤ 8 * size) × (8 * size - b * width < 8)
-unfolding packedSize
-unused-lt b width size e = (omega arith, omega arith)
-
-pub one-byte : (b width size : ℕ) → 1 ≤ b → 1 ≤ width → size ≡ packedSize b width → 1 ≤ size
-unfolding packedSize
-one-byte b width size h k e = let p : 1 * 1 ≤ b * width = mul-le-mul h k in omega arith
-
-pub padding-is : (s : List ℕ) (b width o size power last : ℕ) → size ≡ packedSize b width → power ≡ 2 ^ (8 * size - b * width) → last ≡ byteAt s (o + size - 1)
-    → eqb (last % power) 0 ≡ paddingAllowed s b width o
-unfolding paddingAllowed
-padding-is s b width o size power last es ep el = rw (el, ep, es)
 
 -- ---- scanning down
 

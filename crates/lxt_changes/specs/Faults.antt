@@ -8,11 +8,12 @@ use lib.Dec.{ltb, leb}
 use Rattle.lxt_format.specs.Limits.{widestFacility}
 use Rattle.lxt_format.specs.Basics.{_unless_, _orElse_}
 use Rattle.lxt_format.specs.Bytes.{byteAt}
-use Rattle.lxt_format.specs.Changes.{signal, commandOf, dataAt, commandAllowed, symbolSize, packedSize, symbolsAllowed, dataAllowed, changeEnd}
+use Rattle.lxt_format.specs.Changes.{signal, commandOf, dataAt, commandAllowed, symbolSize, packedSize, codesAllowed, paddingClean, dataAllowed, changeEnd}
 use Rattle.lxt_format.specs.declared.Kind.{Kind}
 use Rattle.lxt_format.specs.declared.Kind.the-variants.{Bits, Integer, Real, Text}
 use Rattle.lxt_changes.specs.Windows.{Known}
 use Rattle.lxt_changes.specs.declared.fault.Faulted.{Faulted}
+use Rattle.lxt_changes.specs.declared.fault.Verdict.{Verdict}
 
 -- the last zero before `end` is the byte before z; there is none where z is 0
 pub record LastZero (s : List ℕ) (end z : ℕ) : Type 0 where
@@ -34,12 +35,22 @@ bodyFault s T kind width o = 15 unless leb (changeEnd s (signal 0 T kind width) 
 unfoldable pub symbolFault : List ℕ → ℕ → ℕ → ℕ → ℕ
 symbolFault s T width o =
     15 unless leb (dataAt s o + packedSize (symbolSize (commandOf s o)) width) T
-    orElse 16 unless symbolsAllowed s (symbolSize (commandOf s o)) width (dataAt s o)
+    orElse 16 unless codesAllowed s (symbolSize (commandOf s o)) width (dataAt s o)
 
--- a fault that was found, and what is known after that
-pub record Found (s : List ℕ) (fault : ℕ) (r : Faulted) : Type 0 where
+-- and its padding
+unfoldable pub symbolClean : List ℕ → ℕ → ℕ → Bool
+symbolClean s width o = paddingClean s (symbolSize (commandOf s o)) width (dataAt s o)
+
+-- a change's fault that was found; where it has none, whether its padding was clean; and what is known after that
+pub record Found (s : List ℕ) (fault : ℕ) (padding : Bool) (r : Faulted) : Type 0 where
   pub number : r .fault ≡ fault
+  pub clean : r .fault ≡ 0 → r .clean ≡ padding
   pub known : Known s (r .window)
+
+-- the first fault of changes; where they have none, whether the padding of each was clean
+pub record Tells (fault : ℕ) (padding : Bool) (r : Verdict) : Type 0 where
+  pub number : r .fault ≡ fault
+  pub clean : r .fault ≡ 0 → r .clean ≡ padding
 
 -- a kind whose data are symbols
 unfoldable pub symbolic : Kind → Bool

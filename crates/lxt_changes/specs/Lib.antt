@@ -1,2 +1,3 @@
 pub mod Windows
 pub mod Faults
+pub mod Padding

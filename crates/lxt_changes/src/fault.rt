@@ -1,4 +1,4 @@
-// The faults of a change and of a chain: refusals 15 and 16.
+// The faults of a change and of a chain, refusals 15 and 16, and whether their padding is 0.
 ghost use mathlib.Core.Path.{_≡_};
 ghost use mathlib.Core.Bool.{_&&_};
 ghost use Prim.Native.Nat.{_+_, _*_, _-_, _≤_, _<_};
@@ -6,9 +6,10 @@ ghost use lib.Dec.{ltb, leb};
 ghost use lib.ListN.{length};
 ghost use Rattle.lxt_changes.specs.Windows.{Known};
 ghost use Rattle.lxt_format.specs.Limits.{widestFacility};
-ghost use Rattle.lxt_format.specs.Changes.{signal, faultAt, chainFault};
-ghost use Rattle.lxt_changes.specs.Faults.{LastZero, startFault, symbolFault, bodyFault, Found, Setting};
+ghost use Rattle.lxt_format.specs.Changes.{signal, faultAt, cleanAt, chainFault, chainClean};
+ghost use Rattle.lxt_changes.specs.Faults.{LastZero, startFault, symbolFault, symbolClean, bodyFault, Found, Tells, Setting};
 use crate::delta;
+use crate::padding;
 use crate::symbols;
 use crate::symbols::Window;
 use lxt_format::Kind;
@@ -28,10 +29,18 @@ pub fn last_zero(file: &[u8], end: usize) -> usize
     p
 }
 
-// A change's fault, or 0, and what is known of good bytes after that was found.
+// A change's fault, or 0 and whether its padding is 0; and what is known of good bytes after that was
+// found.
 pub struct Faulted {
     pub fault: u8,
+    pub clean: bool,
     pub window: Window,
+}
+
+// The first fault of changes, or 0 and whether the padding of each is 0.
+pub struct Verdict {
+    pub fault: u8,
+    pub clean: bool,
 }
 
 // The first two tests: where the change starts, and its command byte.
@@ -54,26 +63,29 @@ fn start_fault(file: &[u8], from: usize, end: usize, kind: Kind, o: usize) -> u8
 // The next two tests, of a change of symbols: the whole change before T, and its data.
 fn symbol_fault(file: &[u8], end: usize, width: u32, o: usize, w: Window) -> Faulted
     requires { ⌜ Known (now file) w × (((1 ≤ width) × (width ≤ widestFacility)) × ((o < end) × (end ≤ length (now file)))) ⌝ }
-    ensures { λ r. ⌜ Found (now (file .entry)) (symbolFault (now (file .entry)) end width o) r ⌝ }
+    ensures { λ r. ⌜ Found (now (file .entry)) (symbolFault (now (file .entry)) end width o) (symbolClean (now (file .entry)) width o) r ⌝ }
 {
     let b = symbols::size_of(file[o]);
     let at = delta::data_at(file, o);
     if end < at + symbols::packed_size(b, width) {
         return Faulted {
             fault: 15,
+            clean: false,
             window: w,
         };
     }
-    let checked = symbols::data_allowed(file, b, width, at, w);
+    let checked = symbols::codes_allowed(file, b, width, at, w);
     let seen = checked.window;
     if !checked.allowed {
         return Faulted {
             fault: 16,
+            clean: false,
             window: seen,
         };
     }
     Faulted {
         fault: 0,
+        clean: padding::padding_clean(file, b, width, at),
         window: seen,
     }
 }
@@ -111,17 +123,19 @@ fn body_fault(
     w: Window,
 ) -> Faulted
     requires { ⌜ Setting (now file) end zero kind width × (Known (now file) w × (o < end)) ⌝ }
-    ensures { λ r. ⌜ Found (now (file .entry)) (bodyFault (now (file .entry)) end kind width o) r ⌝ }
+    ensures { λ r. ⌜ Found (now (file .entry)) (bodyFault (now (file .entry)) end kind width o) (cleanAt (now (file .entry)) (signal 0 end kind width) o) r ⌝ }
 {
     match kind {
         Kind::Bits => symbol_fault(file, end, width, o, w),
         Kind::Integer => symbol_fault(file, end, width, o, w),
         Kind::Real => Faulted {
             fault: real_fault(file, end, o),
+            clean: true,
             window: w,
         },
         Kind::Text => Faulted {
             fault: text_fault(file, end, zero, o),
+            clean: true,
             window: w,
         },
     }
@@ -140,12 +154,13 @@ pub fn change_fault(
     w: Window,
 ) -> Faulted
     requires { ⌜ Setting (now file) end zero kind width × Known (now file) w ⌝ }
-    ensures { λ r. ⌜ Found (now (file .entry)) (faultAt (now (file .entry)) (signal from end kind width) o) r ⌝ }
+    ensures { λ r. ⌜ Found (now (file .entry)) (faultAt (now (file .entry)) (signal from end kind width) o) (cleanAt (now (file .entry)) (signal from end kind width) o) r ⌝ }
 {
     let first = start_fault(file, from, end, kind, o);
     if first != 0 {
         return Faulted {
             fault: first,
+            clean: false,
             window: w,
         };
     }
@@ -157,16 +172,19 @@ pub fn change_fault(
     if !delta::previous_allowed(file, from, o) {
         return Faulted {
             fault: 15,
+            clean: false,
             window: seen,
         };
     }
     Faulted {
         fault: 0,
+        clean: body.clean,
         window: seen,
     }
 }
 
-// The first fault of the chain that starts at `start`, newest change first, or 0.
+// The first fault of the chain that starts at `start`, newest change first, or 0 and whether the padding of
+// all its changes is 0.
 pub fn first_fault(
     file: &[u8],
     from: usize,
@@ -175,20 +193,28 @@ pub fn first_fault(
     kind: Kind,
     width: u32,
     start: usize,
-) -> u8
+) -> Verdict
     requires { ⌜ Setting (now file) end zero kind width ⌝ }
-    ensures { λ r. ⌜ r ≡ chainFault (now (file .entry)) (signal from end kind width) start ⌝ }
+    ensures { λ r. ⌜ Tells (chainFault (now (file .entry)) (signal from end kind width) start) (chainClean (now (file .entry)) (signal from end kind width) start) r ⌝ }
 {
     let mut o = start;
+    let mut clean = true;
     let mut w = Window { from: 0, to: 0 };
     while o != 0 {
         let found = change_fault(file, from, end, zero, kind, width, o, w);
         if found.fault != 0 {
-            return found.fault;
+            return Verdict {
+                fault: found.fault,
+                clean: false,
+            };
         }
+        clean = clean & found.clean;
         let seen = found.window;
         w = seen;
         o = delta::previous(file, o);
     }
-    0
+    Verdict {
+        fault: 0,
+        clean: clean,
+    }
 }

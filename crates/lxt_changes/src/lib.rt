@@ -3,4 +3,5 @@
 pub mod delta;
 pub mod ends;
 pub mod fault;
+pub mod padding;
 pub mod symbols;

@@ -1,15 +1,14 @@
 // Symbols of 1, 2 and 4 bits: which commands a kind has, how many bytes the data takes, and whether
-// the data is allowed.
+// its codes are allowed.
 ghost use mathlib.Core.Path.{_≡_};
 ghost use mathlib.Core.Bool.{_&&_};
 ghost use Prim.Native.Nat.{_+_, _*_, _-_, _≤_, _<_, _/_, _%_, _^_};
 ghost use lib.Dec.{ltb, leb};
 ghost use lib.ListN.{length};
 ghost use Rattle.lxt_format.specs.Limits.{widestFacility};
-ghost use Rattle.lxt_format.specs.Changes.{commandAllowed, symbolSize, packedSize, paddingAllowed, symbolsAllowed};
+ghost use Rattle.lxt_format.specs.Changes.{commandAllowed, symbolSize, packedSize, codesAllowed};
 ghost use Rattle.lxt_changes.specs.Windows.{goodByte, allGood, Scanned, Known, Answered, Data};
 use lxt_format::Kind;
-use lxt_sections::wide;
 
 // The two highest bits are 0, and the command is one of the kind's.
 pub fn command_fits(kind: Kind, byte: u8) -> bool
@@ -49,32 +48,6 @@ pub fn packed_size(b: u32, width: u32) -> usize
     ((b as usize) * (width as usize) + 7) / 8
 }
 
-fn power_of_2(k: usize) -> u32
-    requires { ⌜ k < 8 ⌝ }
-    ensures { λ r. ⌜ (r ≡ 2 ^ k) × (0 < r) ⌝ }
-{
-    match k {
-        0 => 1,
-        1 => 2,
-        2 => 4,
-        3 => 8,
-        4 => 16,
-        5 => 32,
-        6 => 64,
-        _ => 128,
-    }
-}
-
-// The bits of the last data byte that no symbol uses are 0.
-fn padding_allowed(file: &[u8], b: u32, width: u32, at: usize) -> bool
-    requires { ⌜ ((1 ≤ b) × (b ≤ 4)) × (((1 ≤ width) × (width ≤ widestFacility)) × (at + packedSize b width ≤ length (now file))) ⌝ }
-    ensures { λ r. ⌜ r ≡ paddingAllowed (now (file .entry)) b width at ⌝ }
-{
-    let size = packed_size(b, width);
-    let unused = power_of_2(8 * size - (b as usize) * (width as usize));
-    wide(file[at + size - 1]) % unused == 0
-}
-
 // Both codes of a byte are codes of symbols.
 fn good(byte: u8) -> bool
     ensures { λ r. ⌜ r ≡ goodByte byte ⌝ }
@@ -111,15 +84,15 @@ pub struct Checked {
 
 // All bytes from `from` up to `to` are good. Where they meet the window, only those outside it are read:
 // the changes of a chain fall, so that each byte is read about once.
-fn codes_allowed(file: &[u8], w: Window, from: usize, to: usize) -> Checked
+fn all_good(file: &[u8], w: Window, from: usize, to: usize) -> Checked
     requires { ⌜ Known (now file) w × ((from ≤ to) × (to ≤ length (now file))) ⌝ }
     ensures { λ r. ⌜ Answered (now (file .entry)) (allGood (now (file .entry)) from to) r ⌝ }
 {
     if to < w.from {
-        return codes_anew(file, from, to);
+        return all_good_anew(file, from, to);
     }
     if w.to < from {
-        return codes_anew(file, from, to);
+        return all_good_anew(file, from, to);
     }
     let low = good_from(file, from, w.from);
     if from < low {
@@ -151,7 +124,7 @@ fn codes_allowed(file: &[u8], w: Window, from: usize, to: usize) -> Checked
 }
 
 // The same with no window.
-fn codes_anew(file: &[u8], from: usize, to: usize) -> Checked
+fn all_good_anew(file: &[u8], from: usize, to: usize) -> Checked
     requires { ⌜ (from ≤ to) × (to ≤ length (now file)) ⌝ }
     ensures { λ r. ⌜ Answered (now (file .entry)) (allGood (now (file .entry)) from to) r ⌝ }
 {
@@ -162,28 +135,27 @@ fn codes_anew(file: &[u8], from: usize, to: usize) -> Checked
     }
 }
 
-// The data of `width` symbols of `b` bits from `at` on is allowed.
-pub fn data_allowed(file: &[u8], b: u32, width: u32, at: usize, w: Window) -> Checked
+// The codes of `width` symbols of `b` bits from `at` on are allowed. Two codes of 4 bits fill a byte; of an
+// odd width the second code of the last byte is none.
+pub fn codes_allowed(file: &[u8], b: u32, width: u32, at: usize, w: Window) -> Checked
     requires { ⌜ Known (now file) w × Data (now file) b width at ⌝ }
-    ensures { λ r. ⌜ Answered (now (file .entry)) (symbolsAllowed (now (file .entry)) b width at) r ⌝ }
+    ensures { λ r. ⌜ Answered (now (file .entry)) (codesAllowed (now (file .entry)) b width at) r ⌝ }
 {
-    if b == 0 {
-        return Checked {
-            allowed: true,
-            window: w,
-        };
-    }
-    if !padding_allowed(file, b, width, at) {
-        return Checked {
-            allowed: false,
-            window: w,
-        };
-    }
     if b != 4 {
         return Checked {
             allowed: true,
             window: w,
         };
     }
-    codes_allowed(file, w, at, at + packed_size(b, width))
+    let last = at + width as usize / 2;
+    let checked = all_good(file, w, at, last);
+    if width % 2 == 0 {
+        return checked;
+    }
+    let byte = file[last];
+    let seen = checked.window;
+    Checked {
+        allowed: checked.allowed & (byte / 16 % 16 <= 8),
+        window: seen,
+    }
 }

@@ -53,9 +53,14 @@ valueSays (ofValue.Text start size) = given (textOf start size)
 valueSays ofValue.NotDriven = given nothing
 valueSays (ofValue.Refused n) = refused n
 
--- a change's time, 0 where it is refused, and its value
-abbrev pub timedSays : TimedValue → ℕ × Answer Shown
-timedSays t = (t .time, valueSays (t .value))
+-- what is answered of a change: its time, its value, and whether its padding was clean; where it is refused, 0 and no
+pub record Timed : Type 0 where
+  pub time : ℕ
+  pub value : Answer Shown
+  pub clean : Bool
+
+abbrev pub timedSays : TimedValue → Timed
+timedSays t = record { time = t .time; value = valueSays (t .value); clean = t .clean }
 
 abbrev pub startSays : StartAnswer → Answer (Unit {0})
 startSays ofStart.Started = given tt

@@ -60,16 +60,17 @@ unpack b width bs = take width (joined (digits b (8 / b)) bs)
 unfoldable pub codesAt : List ℕ → ℕ → ℕ → ℕ → List ℕ
 codesAt s b width o = unpack b width (slice o (o + packedSize b width) s)
 
--- "4 bits a symbol, codes 0 to 8"; fewer bits hold no more
+-- "4 bits a symbol, codes 0 to 8"; fewer bits hold no more, and where there is no data there is no code
 unfoldable pub codesAllowed : List ℕ → ℕ → ℕ → ℕ → Bool
 codesAllowed s b width o = all (λ code. leb code 8) (codesAt s b width o)
 
--- "unused bits are 0": those of the last byte below its last code
-unfoldable pub paddingAllowed : List ℕ → ℕ → ℕ → ℕ → Bool
-paddingAllowed s b width o = eqb (byteAt s (o + packedSize b width - 1) % 2 ^ (8 * packedSize b width - b * width)) 0
+-- paper 02, Ask 6: "a change's unused bits": those of the last data byte below its last code
+unfoldable pub unusedBits : ℕ → ℕ → ℕ
+unusedBits b width = 8 * packedSize b width - b * width
 
-unfoldable pub symbolsAllowed : List ℕ → ℕ → ℕ → ℕ → Bool
-symbolsAllowed s b width o = eqb b 0 || (codesAllowed s b width o && paddingAllowed s b width o)
+-- "padding was clean": they are 0. Where there are none, as under 3 to B, it was
+unfoldable pub paddingClean : List ℕ → ℕ → ℕ → ℕ → Bool
+paddingClean s b width o = eqb (byteAt s (o + packedSize b width - 1) % 2 ^ unusedBits b width) 0
 
 -- ---- the changes of a facility
 
@@ -93,11 +94,22 @@ dataSize s g o =
       | Text ↦ toZero (slice (dataAt s o) (g .end) s) + 1
     ]
 
+-- Ask 6: "Refusal 16 no longer covers padding."
 unfoldable pub dataAllowed : List ℕ → Signal → ℕ → Bool
 dataAllowed s g o =
     elim (g .kind) [
-      | Bits ↦ symbolsAllowed s (symbolSize (commandOf s o)) (g .width) (dataAt s o)
-      | Integer ↦ symbolsAllowed s (symbolSize (commandOf s o)) (g .width) (dataAt s o)
+      | Bits ↦ codesAllowed s (symbolSize (commandOf s o)) (g .width) (dataAt s o)
+      | Integer ↦ codesAllowed s (symbolSize (commandOf s o)) (g .width) (dataAt s o)
+      | Real ↦ true
+      | Text ↦ true
+    ]
+
+-- whether the padding of the change at o was clean; a real and a text have none
+unfoldable pub cleanAt : List ℕ → Signal → ℕ → Bool
+cleanAt s g o =
+    elim (g .kind) [
+      | Bits ↦ paddingClean s (symbolSize (commandOf s o)) (g .width) (dataAt s o)
+      | Integer ↦ paddingClean s (symbolSize (commandOf s o)) (g .width) (dataAt s o)
       | Real ↦ true
       | Text ↦ true
     ]
@@ -136,3 +148,7 @@ chainOf s o = chainWithin o s o
 -- the first fault of the chain from o on, newest change first
 unfoldable pub chainFault : List ℕ → Signal → ℕ → ℕ
 chainFault s g o = firstFault (map (faultAt s g) (chainOf s o))
+
+-- whether the padding of every change of the chain from o on was clean
+unfoldable pub chainClean : List ℕ → Signal → ℕ → Bool
+chainClean s g o = all (cleanAt s g) (chainOf s o)

@@ -1,16 +1,16 @@
 -- Laws of changes and chains.
 use Prim.Native.Nat.{ℕ, zero, suc, _+_, _≤_, _<_}
 use mathlib.Core.Path.{_≡_, refl, ap}
-use mathlib.Core.Bool.{true}
+use mathlib.Core.Bool.{true, _&&_}
 use mathlib.Core.List.{List, [], _∷_}
 use lib.Dec.{lit<}
 use native.Mathlib.Omega.{arith}
 use native.Mathlib.Decide.{ℕ-discrete}
 use borrow.Author.Tests.{eq-eqb, ne-eqb, leb-true, ltb-true}
-use Rattle.lxt_format.specs.Basics.{firstFault}
+use Rattle.lxt_format.specs.Basics.{all, firstFault}
 use Rattle.lxt_format.specs.BasicsLaws.{and-both, kept, neither, fault-next, fault-here}
 use Rattle.lxt_format.specs.Bytes.{byteAt}
-use Rattle.lxt_format.specs.Changes.{Signal, signal, commandOf, deltaSize, dataAt, previousOf, commandAllowed, dataSize, dataAllowed, changeEnd, previousAllowed, faultAt, chainWithin, chainOf, chainFault}
+use Rattle.lxt_format.specs.Changes.{Signal, signal, commandOf, deltaSize, dataAt, previousOf, commandAllowed, dataSize, dataAllowed, cleanAt, changeEnd, previousAllowed, faultAt, chainWithin, chainOf, chainFault, chainClean}
 use Rattle.lxt_format.specs.declared.Kind.{Kind}
 
 -- ---- the previous change
@@ -55,7 +55,7 @@ chain-more s (suc o) h =
     simp (ne-eqb (suc o) 0 n)
     (ap (λ (l : List ℕ). suc o ∷ l) (chain-same o (previousOf s (suc o)) s (previousOf s (suc o)) (previous-le s o) (omega arith)))
 
--- ---- faults of a chain: those of its newest change, then those of the rest
+-- ---- faults and padding of a chain: those of its newest change, then those of the rest
 
 module _ (s : List ℕ) (g : Signal) where
   pub faults-none : chainFault s g 0 ≡ 0
@@ -69,6 +69,14 @@ module _ (s : List ℕ) (g : Signal) where
   pub faults-here : (o : ℕ) → 0 < o → (faultAt s g o ≡ 0 → ⊥) → chainFault s g o ≡ faultAt s g o
   unfolding chainFault
   faults-here o h n = rw (chain-more s o h) (fault-here _ _ n)
+
+  pub clean-none : chainClean s g 0 ≡ true
+  unfolding chainClean all
+  clean-none = rw (chain-none s)
+
+  pub clean-next : (o : ℕ) → 0 < o → chainClean s g o ≡ (cleanAt s g o && chainClean s g (previousOf s o))
+  unfolding chainClean all
+  clean-next o h = rw (chain-more s o h)
 
   -- what a change without a fault keeps
   pub record Sound (o : ℕ) : Type 0 where

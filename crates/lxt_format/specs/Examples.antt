@@ -51,7 +51,7 @@ alpha = spelled 5 0x616C706861
 
 pub table : List Row
 table =
-    row 1 (judge trace) (given (record { facilities = 1; changes = 4; end = 68; timescale = negsuc 8; initial = 3 }))
+    row 1 (judge trace) (given (record { facilities = 1; changes = 4; end = 68; timescale = negsuc 8; initial = 3; clean = true }))
     ∷ row 1 (nameOf trace 0) (spelled 1 0x61)
     ∷ row 1 (factsAsked trace 0) (given (record { width = 1; msb = pos 0; lsb = pos 0; kind = Bits }))
     ∷ row 2 (carryAsked trace started 9 18) (given (2, true))

@@ -9,7 +9,7 @@ use Rattle.lxt_format.specs.Names.{namesAllowed}
 use Rattle.lxt_format.specs.Geometry.{geometriesAllowed, aliasesAllowed, rootsOf, ownFacts, syncOf}
 use Rattle.lxt_format.specs.Times.{timesAllowed}
 use Rattle.lxt_format.specs.Reals.{realTestAllowed}
-use Rattle.lxt_format.specs.Changes.{Signal, changeEnd, chainOf, chainFault}
+use Rattle.lxt_format.specs.Changes.{Signal, changeEnd, chainOf, chainFault, chainClean}
 use Rattle.lxt_format.specs.declared.Facts.{Facts}
 use Rattle.lxt_format.specs.declared.Pair.{Pair}
 use Rattle.lxt_format.specs.declared.Summary.{Summary}
@@ -76,9 +76,23 @@ changesApart s = pairwise (apart (endAt s)) (allChanges s)
 unfoldable pub fileRefusal : List ℕ → ℕ
 fileRefusal s = tablesRefusal s orElse chainsRefusal s orElse 17 unless changesApart s
 
+-- whether the padding of that chain was clean, and paper 02, Ask 6: "judging says whether every change reachable from a root was clean"
+unfoldable pub cleanFrom : List ℕ → ℕ → ℕ → Bool
+cleanFrom s f o = chainClean s (signalOf s f) o
+
+unfoldable pub allClean : List ℕ → Bool
+allClean s = all (λ f. cleanFrom s f (syncOf s f)) (rootsOf s)
+
 unfoldable pub summaryOf : List ℕ → Summary
 summaryOf s =
-    record { facilities = facilityCount s; changes = changesFrom s; end = endOf s; timescale = timescaleOf s; initial = initialOf s }
+    record {
+      facilities = facilityCount s;
+      changes = changesFrom s;
+      end = endOf s;
+      timescale = timescaleOf s;
+      initial = initialOf s;
+      clean = allClean s;
+    }
 
 -- "Judge: n, C, T, timescale and initial symbol, or a refusal."
 unfoldable pub judge : List ℕ → Answer Summary

@@ -26,3 +26,4 @@ pub mod Everything
 pub mod Traces
 pub mod Examples
 pub mod Neighbours
+pub mod Padding

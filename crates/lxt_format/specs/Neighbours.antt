@@ -14,7 +14,7 @@ use Rattle.lxt_format.specs.Changes.{previousOf}
 use Rattle.lxt_format.specs.Values.{symbolOf}
 use Rattle.lxt_format.specs.Judge.{tablesRefusal, judge, allChanges, endAt, fileRefusal}
 use Rattle.lxt_format.specs.Walk.{fullList}
-use Rattle.lxt_format.specs.Answers.{bitsOf, realOf, textOf, nothing}
+use Rattle.lxt_format.specs.Answers.{Shown, bitsOf, realOf, textOf, nothing, Timed}
 use Rattle.lxt_format.specs.Questions.{factsAsked, rootAsked, nameAsked, namePart, nameBuffer, beforeAsked, changeAsked, changeBuffer, valueAsked, valueBuffer, startAsked, startRecord, carryAsked, carryRecord, carryOutput}
 use Rattle.lxt_format.specs.Everything.{everything}
 use Rattle.lxt_format.specs.Traces.{spelled, with16, with32, facilitiesNamed}
@@ -61,7 +61,14 @@ twoTexts o = with32 (with32 mixed (flagsOfMixed 2) 4) (syncOfMixed 2) o
 
 -- what judging the trace `mixed` answers with that timescale and initial symbol
 abbrev judged : ℤ → ℕ → Answer Summary
-judged scale code = given (record { facilities = 6; changes = 5; end = 242; timescale = scale; initial = code })
+judged scale code = given (record { facilities = 6; changes = 5; end = 242; timescale = scale; initial = code; clean = true })
+
+-- a change that is read, with clean padding, and one that is refused
+abbrev read : ℕ → Shown → Timed
+read time value = record { time = time; value = given value; clean = true }
+
+abbrev unread : ℕ → Timed
+unread refusal = record { time = 0; value = refused refusal; clean = false }
 
 -- a record of the trace `mixed` in which the facilities 2 and 3 have pending offsets
 abbrev pendingAt : ℕ → ℕ → List Pair
@@ -189,14 +196,14 @@ neighbours =
     ∷ row 16 (fileRefusal (with32 (with32 (with32 trace timeDelta1 0x45) lastOfTimes 0x45) syncEntry 67)) 16
     ∷ row 16 (fileRefusal (set trace newestCommand 0x0C)) 16
     ∷ row 16 (fileRefusal (set trace newestCommand 0x0B)) 0
-    ∷ row 16 (fileRefusal (set mixed data5 0xB5)) 16
+    ∷ row 16 (fileRefusal (set mixed data5 0xB5)) 0
     ∷ row 16 (fileRefusal (set mixed data5 0xB8)) 0
-    ∷ row 16 (fileRefusal (set mixed command5 0)) 16
+    ∷ row 16 (fileRefusal (set mixed command5 0)) 0
     ∷ row 16 (fileRefusal (set (set mixed command5 0) data5 0xA0)) 0
-    ∷ row 16 (fileRefusal (set (set mixed data5 0xB5) delta5 2)) 16
-    ∷ row 16 (fileRefusal (with32 (set mixed data5 0xB5) (syncOfMixed 1) 3)) 16
+    ∷ row 16 (fileRefusal (set (set mixed data5 0xB5) delta5 2)) 15
+    ∷ row 16 (fileRefusal (with32 (set mixed data29 0x90) (syncOfMixed 1) 3)) 16
     ∷ row 16 (fileRefusal (set mixed data29 0x90)) 16
-    ∷ row 16 (fileRefusal (set mixed data29 0x81)) 16
+    ∷ row 16 (fileRefusal (set mixed data29 0x8F)) 0
     ∷ row 16 (fileRefusal (set mixed data29 0x70)) 0
     ∷ row 16 (fileRefusal (set (set mixed data29 0x90) delta5 2)) 16
     ∷ row 16 (fileRefusal (set mixed command8 1)) 16
@@ -232,8 +239,8 @@ neighbours =
     ∷ row 21 (nameAsked trace 0 1022) (refused 21)
     ∷ row 21 (valueAsked trace 0 0 1) (given (bitsOf 1))
     ∷ row 21 (valueAsked trace 0 0 0) (refused 21)
-    ∷ row 21 (changeAsked trace 0 6 0) (0, refused 21)
-    ∷ row 21 (changeAsked trace 0 5 0) (0, refused 19)
+    ∷ row 21 (changeAsked trace 0 6 0) (unread 21)
+    ∷ row 21 (changeAsked trace 0 5 0) (unread 19)
     ∷ row 21 (carryAsked trace [] 0 0) (refused 21)
     ∷ row 21 (carryAsked trace (pair 0 6 ∷ []) 1 1) (refused 21)
     ∷ row 21 (carryAsked trace (pair 1 6 ∷ []) 1 1) (refused 20)
@@ -266,8 +273,8 @@ answers =
     ∷ row 1 (judge (set mixed timescaleByte 0x03)) (judged (negsuc 8) 1)
     ∷ row 1 (judge (set mixed initialByte 8)) (judged (negsuc 11) 8)
     ∷ row 1 (judge (set mixed initialByte 9)) (judged (negsuc 11) 3)
-    ∷ row 1 (judge (endItem 0x0000000B05)) (given (record { facilities = 1; changes = 4; end = 68; timescale = pos 1; initial = 3 }))
-    ∷ row 1 (judge (endItem 0x0000000B07)) (given (record { facilities = 1; changes = 4; end = 68; timescale = negsuc 8; initial = 1 }))
+    ∷ row 1 (judge (endItem 0x0000000B05)) (given (record { facilities = 1; changes = 4; end = 68; timescale = pos 1; initial = 3; clean = true }))
+    ∷ row 1 (judge (endItem 0x0000000B07)) (given (record { facilities = 1; changes = 4; end = 68; timescale = negsuc 8; initial = 1; clean = true }))
     ∷ row 2 (map (nameOf mixed) (range 0 6)) (spelled 3 0x636C6B ∷ spelled 5 0x636F756E74 ∷ spelled 4 0x766F6C74 ∷ spelled 3 0x6D7367 ∷ spelled 4 0x636C6B32 ∷ spelled 4 0x636C6B33 ∷ [])
     ∷ row 3 (map (rootAsked mixed) (range 0 6)) (map given (0 ∷ 1 ∷ 2 ∷ 3 ∷ 0 ∷ 0 ∷ []))
     ∷ row 4 (factsAsked mixed 4) (given (record { width = 3; msb = pos 2; lsb = pos 0; kind = Bits }))
@@ -278,14 +285,14 @@ answers =
     ∷ row 4 (factsAsked (with32 trace lsb 0xFFFFFFFF) 0) (given (record { width = 2; msb = pos 0; lsb = negsuc 0; kind = Bits }))
     ∷ row 4 (factsAsked (with32 (with32 trace msb 0x7FFFFFFF) lsb 0x7FFFFFFE) 0) (given (record { width = 2; msb = pos 2147483647; lsb = pos 2147483646; kind = Bits }))
     ∷ row 4 (factsAsked (with32 (with32 trace msb 0x80000000) lsb 0x80000000) 0) (given (record { width = 1; msb = negsuc 2147483647; lsb = negsuc 2147483647; kind = Bits }))
-    ∷ row 5 (changeAsked mixed 4 29 3) (10, given (bitsOf 3))
+    ∷ row 5 (changeAsked mixed 4 29 3) (read 10 (bitsOf 3))
     ∷ row 5 (changeBuffer mixed 4 29 (replicate 4 0xFF)) (spelled 4 0x48552DFF)
     ∷ row 5 (changeBuffer mixed 0 5 (replicate 3 0xFF)) (spelled 3 0x5A5831)
     ∷ row 5 (changeBuffer mixed 0 5 (replicate 2 0xFF)) (replicate 2 0xFF)
     ∷ row 5 (map symbolOf (range 0 9)) (spelled 9 0x30315A584855574C2D)
-    ∷ row 6 (changeAsked mixed 2 14 0) (10, given (realOf (ofBits binary64 0x3FF8000000010203) 0x3FF8000000010203))
-    ∷ row 7 (changeAsked mixed 3 24 0) (10, given (textOf 26 2))
-    ∷ row 7 (changeAsked mixed 3 34 0) (20, given (textOf 36 0))
+    ∷ row 6 (changeAsked mixed 2 14 0) (read 10 (realOf (ofBits binary64 0x3FF8000000010203) 0x3FF8000000010203))
+    ∷ row 7 (changeAsked mixed 3 24 0) (read 10 (textOf 26 2))
+    ∷ row 7 (changeAsked mixed 3 34 0) (read 20 (textOf 36 0))
     ∷ row 8 (valueAsked mixed 3 9 0) (given nothing)
     ∷ row 8 (valueAsked mixed 2 9 0) (given nothing)
     ∷ row 8 (valueAsked mixed 4 20 3) (given (bitsOf 3))

@@ -1,7 +1,7 @@
 -- Paper 01, "What can be asked": each question's answer, and what everything lent holds afterwards.
 -- "Every call judges the file first, except carrying on: it does checks 1 to 14, then 20 to 21."
 use Prim.Native.Nat.{ℕ, _*_, _-_}
-use mathlib.Core.Bool.{Bool}
+use mathlib.Core.Bool.{Bool, _&&_}
 use mathlib.Core.List.{List, [], _++_}
 use lib.ListN.{length, drop, replicate}
 use lib.Dec.{ltb, leb, eqb}
@@ -11,10 +11,10 @@ use Rattle.lxt_format.specs.Sections.{facilityCount}
 use Rattle.lxt_format.specs.Names.{nameOf}
 use Rattle.lxt_format.specs.Geometry.{rootOf, factsOf, syncOf}
 use Rattle.lxt_format.specs.Times.{timeOf}
-use Rattle.lxt_format.specs.Changes.{chainOf, previousOf}
+use Rattle.lxt_format.specs.Changes.{chainOf, previousOf, cleanAt}
 use Rattle.lxt_format.specs.Values.{Content, bits, real, text, notDriven, contentOf, contentAt}
-use Rattle.lxt_format.specs.Judge.{tablesRefusal, fileRefusal}
-use Rattle.lxt_format.specs.Answers.{Shown, shown}
+use Rattle.lxt_format.specs.Judge.{tablesRefusal, fileRefusal, signalOf}
+use Rattle.lxt_format.specs.Answers.{Shown, shown, Timed}
 use Rattle.lxt_format.specs.Walk.{startOffsets, withOffsets, offsetsOf, recordAllowed, high, handedOut, offsetsAfter, flat}
 use Rattle.lxt_format.specs.declared.Facts.{Facts}
 use Rattle.lxt_format.specs.declared.Pair.{Pair}
@@ -82,11 +82,15 @@ holdingBits value buffer = written value ++ drop (length (written value)) buffer
 unfoldable pub readingRefusal : List ℕ → ℕ → ℕ → ℕ → ℕ
 readingRefusal s f o room = changeRefusal s f o orElse 21 unless leb (factsOf s f .width) room
 
--- "a change's time and value"
-unfoldable pub changeAsked : List ℕ → ℕ → ℕ → ℕ → ℕ × Answer Shown
+-- "a change's time and value". Paper 02, Ask 6: "Reading a change now also says yes or no to "padding was clean""
+unfoldable pub changeAsked : List ℕ → ℕ → ℕ → ℕ → Timed
 changeAsked s f o room =
     let refusal : ℕ = readingRefusal s f o room in
-    (if eqb refusal 0 then timeOf s o else 0, answer refusal (shown (contentOf s (rootOf s f) o)))
+    record {
+      time = if eqb refusal 0 then timeOf s o else 0;
+      value = answer refusal (shown (contentOf s (rootOf s f) o));
+      clean = eqb refusal 0 && cleanAt s (signalOf s (rootOf s f)) o;
+    }
 
 unfoldable pub changeBuffer : List ℕ → ℕ → ℕ → List ℕ → List ℕ
 changeBuffer s f o buffer = lentAfter (readingRefusal s f o (length buffer)) (holdingBits (contentOf s (rootOf s f) o) buffer) buffer

@@ -242,7 +242,10 @@ command24 = 24
 abbrev pub command37 : ℕ
 command37 = 37
 
--- the last data byte of the changes at 5 and 29,
+-- the first data byte of the change at 8, and the last of the changes at 5 and 29,
+abbrev pub data8 : ℕ
+data8 = 10
+
 abbrev pub data5 : ℕ
 data5 = 7
 

@@ -117,6 +117,8 @@ pub struct Summary {
     pub timescale: i8,
     // the code of the initial symbol, 0 to 8
     pub initial: u8,
+    // the unused bits of every change on the chain of a root are 0
+    pub clean: bool,
 }
 
 impl Summary {
@@ -157,10 +159,12 @@ pub enum Value {
     Refused(u8),
 }
 
-// A change's time and value; the time is 0 where the value says "refused".
+// A change's time and value, and whether its unused bits are 0. Where the value says "refused" these
+// are 0 and no.
 pub struct TimedValue {
     pub time: u32,
     pub value: Value,
+    pub clean: bool,
 }
 
 // A facility's number and an offset: a pair of the walk record, whose offset is the pending one, or

@@ -1,7 +1,7 @@
 -- A law for each way out of judging.
 use Prim.Native.Nat.{ℕ, _+_, _<_}
 use mathlib.Core.Path.{_≡_, sym, _∙_}
-use mathlib.Core.Bool.{true, _&&_}
+use mathlib.Core.Bool.{Bool, true, _&&_}
 use mathlib.Core.List.{List}
 use lib.IntN.{ℤ, pos, negsuc}
 use lib.Dec.{lit<}
@@ -14,7 +14,7 @@ use Rattle.lxt_format.specs.Basics.{given, refused}
 use Rattle.lxt_format.specs.Bytes.{byteAt, signed}
 use Rattle.lxt_format.specs.BasicsLaws.{on-test, and-both, answer-given, answer-refused}
 use Rattle.lxt_format.specs.Sections.{sectionOf, present, timescaleAllowed, timescaleOf}
-use Rattle.lxt_format.specs.Judge.{fileRefusal, summaryOf, judge}
+use Rattle.lxt_format.specs.Judge.{fileRefusal, allClean, summaryOf, judge}
 use Rattle.lxt_format.specs.JudgeLaws.{accepted}
 use Rattle.lxt_tables.specs.Stage.{tablesOf}
 use Rattle.lxt_tables.specs.declared.Tables.{Tables}
@@ -46,9 +46,10 @@ module _ (s : List ℕ) (t : Tables) (e : t ≡ tablesOf s) where
       pub end-small : t .end < 4294967296
       end-small = let k = known s t e tables-fine in omega (arith, k .long, k .end-high)
 
-      pub judged-given : given (record { facilities = t .facilities; changes = t .changes; end = t .end; timescale = toZ w8 (ofZ w8 (t .timescale)); initial = t .initial }) ≡ judge s
+      pub judged-given : (z : Bool) → z ≡ allClean s
+          → given (record { facilities = t .facilities; changes = t .changes; end = t .end; timescale = toZ w8 (ofZ w8 (t .timescale)); initial = t .initial; clean = z }) ≡ judge s
       unfolding judge summaryOf
-      judged-given =
+      judged-given z ez =
           let k = known s t e tables-fine in
           let fits : SFits w8 (t .timescale) = rw (k .timescale) (timescale-fits s) in
-          rw (toZ-ofZ w8 (t .timescale) fits, k .facilities, k .changes, k .end, k .timescale, k .initial) (sym (answer-given (fileRefusal s) _ (sym er ∙ h)))
+          rw (toZ-ofZ w8 (t .timescale) fits, k .facilities, k .changes, k .end, k .timescale, k .initial, ez) (sym (answer-given (fileRefusal s) _ (sym er ∙ h)))

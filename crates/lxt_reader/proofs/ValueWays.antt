@@ -1,7 +1,7 @@
 -- A law for each way out of the questions on values.
 use Prim.Native.Nat.{ℕ, _+_, _≤_, _<_}
 use mathlib.Core.Path.{_≡_, refl, sym, _∙_}
-use mathlib.Core.Bool.{_&&_}
+use mathlib.Core.Bool.{Bool, _&&_}
 use mathlib.Core.List.{List, [], _++_}
 use lib.ListN.{length, drop, replicate, length-replicate}
 use lib.Dec.{ltb, leb, eqb, lit<}
@@ -14,12 +14,12 @@ use Rattle.lxt_format.specs.Sections.{sectionOf, present, facilityCount, initia
 use Rattle.lxt_format.specs.Geometry.{rootOf, factsOf}
 use Rattle.lxt_format.specs.Times.{timeOf}
 use Rattle.lxt_format.specs.Reals as R
-use Rattle.lxt_format.specs.Changes.{chainOf}
+use Rattle.lxt_format.specs.Changes.{signal, chainOf, cleanAt}
 use Rattle.lxt_format.specs.ChangesLaws.{Sound}
 use Rattle.lxt_format.specs.Values.{Content, bits, symbolOf, contentBy, contentOf, latestAt, changeAt, initialBy, contentAt}
-use Rattle.lxt_format.specs.Answers.{Shown, bitsOf, nothing, shown, timedSays}
+use Rattle.lxt_format.specs.Answers.{Shown, bitsOf, nothing, shown, Timed, timedSays}
 use Rattle.lxt_format.specs.Questions.{written, holdingBits, facilityRefusal, changeRefusal, readingRefusal, changeAsked, changeBuffer, valueRefusal, valueAsked, valueBuffer, chainAsked}
-use Rattle.lxt_format.specs.Judge.{signalBy, fileRefusal, faultFrom}
+use Rattle.lxt_format.specs.Judge.{signalBy, signalOf, fileRefusal, faultFrom}
 use Rattle.lxt_format.specs.declared.TimedValue.{TimedValue}
 use Rattle.lxt_format.specs.declared.Kind.{Kind}
 use Rattle.lxt_format.specs.declared.Kind.the-variants.{Bits, Integer, Real, Text}
@@ -28,11 +28,14 @@ use Rattle.lxt_values.specs.Times as Ti
 use Rattle.lxt_values.specs.Times.{Readable}
 use Rattle.lxt_values.proofs.SoundChains.{chain-readable, latest-change-sound}
 use Rattle.lxt_tables.specs.Stage.{tablesOf}
-use Rattle.lxt_tables.proofs.TablesLaws.{Known, tables-known, root-in, root-plain, has-real, real-order}
+use Rattle.lxt_tables.proofs.TablesLaws.{Known, tables-known, entry-allowed, root-in, root-plain, width-most, has-real, real-order}
+use Rattle.lxt_changes.specs.Padding.{Inside}
+use Rattle.lxt_changes.proofs.PaddingLaws.{sound-inside}
+use Rattle.lxt_format.specs.Limits.{widestFacility}
 use Rattle.lxt_reader.specs.Changing.{Followed, Chained, Looked}
 use Rattle.lxt_reader.specs.declared.changes.Chain.{Chain}
 use Rattle.lxt_values.specs.Value.{Readies}
-use Rattle.lxt_reader.specs.Reading.{startContent}
+use Rattle.lxt_reader.specs.Reading.{startContent, notRead}
 
 -- ---- before the first change
 
@@ -119,15 +122,28 @@ module _ (s : List ℕ) (f : ℕ) (c : Chain) (e : c .tables ≡ tablesOf s) (fi
   unfolding contentOf factsOf
   content-is o = rw (l .facts)
 
+  -- the padding of a sound change lies in the file
+  pub padding-asks : (o : ℕ) → Sound s (signalBy s (c .facts)) o → (c .facts .width ≤ widestFacility) × Inside s (c .facts .kind) (c .facts .width) o
+  unfolding factsOf
+  padding-asks o sound =
+      let k = tables-are in
+      let r = root-in s (k .passed) f (below-of s f fine) in
+      let p = root-plain s (k .passed) f (below-of s f fine) in
+      (rw (l .facts) (width-most s (rootOf s f) (entry-allowed s (k .passed) (rootOf s f) r) p), sound-inside s _ _ (c .facts .kind) (c .facts .width) o (omega (arith, k .end-high, k .end)) sound)
+
+  pub clean-is : (o : ℕ) → cleanAt s (signal 0 0 (c .facts .kind) (c .facts .width)) o ≡ cleanAt s (signalOf s (rootOf s f)) o
+  unfolding cleanAt factsOf
+  clean-is o = rw (l .facts)
+
 -- ---- a change's time and value
 
 module _ (s : List ℕ) (f o : ℕ) (buffer : List ℕ) (c : Chain) (w : Looked s f o c) where
   says : (refusal : ℕ) → readingRefusal s f o (length buffer) ≡ refusal → (refusal ≡ 0 → ⊥)
-      → (_≡_ {A = ℕ × Answer Shown} (0, refused refusal) (changeAsked s f o (length buffer))) × (buffer ≡ changeBuffer s f o buffer)
+      → (notRead refusal ≡ changeAsked s f o (length buffer)) × (buffer ≡ changeBuffer s f o buffer)
   unfolding changeAsked changeBuffer
   says refusal e n = (sym (rw e (simp (ne-eqb refusal 0 n))), sym (rw e (simp (ne-eqb refusal 0 n))))
 
-  pub change-refused : (c .refusal ≡ 0 → ⊥) → (r : TimedValue) → timedSays r ≡ (0, refused (c .refusal))
+  pub change-refused : (c .refusal ≡ 0 → ⊥) → (r : TimedValue) → timedSays r ≡ notRead (c .refusal)
       → (timedSays r ≡ changeAsked s f o (length buffer)) × (buffer ≡ changeBuffer s f o buffer)
   unfolding readingRefusal
   change-refused n r q =
@@ -142,7 +158,7 @@ module _ (s : List ℕ) (f o : ℕ) (buffer : List ℕ) (c : Chain) (w : Looked 
     unfolding changeRefusal
     facility-fine = neither (facilityRefusal s f) (19 unless any (eqb o) (chainAsked s f)) change-fine .0
 
-    pub change-short : length buffer < c .facts .width → (r : TimedValue) → timedSays r ≡ (0, refused 21)
+    pub change-short : length buffer < c .facts .width → (r : TimedValue) → timedSays r ≡ notRead 21
         → (timedSays r ≡ changeAsked s f o (length buffer)) × (buffer ≡ changeBuffer s f o buffer)
     unfolding readingRefusal
     change-short short r q =
@@ -152,12 +168,14 @@ module _ (s : List ℕ) (f o : ℕ) (buffer : List ℕ) (c : Chain) (w : Looked 
 
     pub change-given : c .facts .width ≤ length buffer → (time : ℕ) → time ≡ timeOf s o → (v : Answer Shown) (after : List ℕ)
         → v ≡ given (shown (contentBy s (c .facts .kind) (c .facts .width) o)) → after ≡ holdingBits (contentBy s (c .facts .kind) (c .facts .width) o) buffer
-        → (_≡_ {A = ℕ × Answer Shown} (time, v) (changeAsked s f o (length buffer))) × (after ≡ changeBuffer s f o buffer)
+        → (z : Bool) → z ≡ cleanAt s (signal 0 0 (c .facts .kind) (c .facts .width)) o
+        → (_≡_ {A = Timed} (record { time = time; value = v; clean = z }) (changeAsked s f o (length buffer))) × (after ≡ changeBuffer s f o buffer)
     unfolding readingRefusal changeAsked changeBuffer
-    change-given room time et v after ev ea =
+    change-given room time et v after ev ea z ez =
         let g : factsOf s f .width ≤ length buffer = rw (w .followed h .facts) at room in
         let i = content-is s f c (w .tables) facility-fine (w .followed h) o in
-        (rw (change-fine, le-leb _ _ g, et, ev, i), ea ∙ rw (change-fine, le-leb _ _ g, i))
+        let j = ez ∙ clean-is s f c (w .tables) facility-fine (w .followed h) o in
+        (rw (change-fine, le-leb _ _ g, et, ev, i, j), ea ∙ rw (change-fine, le-leb _ _ g, i))
 
 -- ---- the value at a time
 

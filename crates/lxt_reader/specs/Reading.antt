@@ -1,6 +1,9 @@
 -- What reading a value asks.
 use Prim.Native.Nat.{ℕ}
+use mathlib.Core.Bool.{false}
 use lib.ListN.{replicate}
+use Rattle.lxt_format.specs.Basics.{refused}
+use Rattle.lxt_format.specs.Answers.{Timed}
 use Rattle.lxt_format.specs.Values.{Content, bits, notDriven, symbolOf}
 use Rattle.lxt_format.specs.declared.Kind.{Kind}
 use Rattle.lxt_format.specs.declared.Kind.the-variants.{Bits, Integer, Real, Text}
@@ -11,3 +14,7 @@ startContent Bits width code = bits (replicate width (symbolOf code))
 startContent Integer width code = bits (replicate width (symbolOf code))
 startContent Real width code = notDriven
 startContent Text width code = notDriven
+
+-- the answer of a change that is refused
+abbrev pub notRead : ℕ → Timed
+notRead n = record { time = 0; value = refused n; clean = false }

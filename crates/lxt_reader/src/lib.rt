@@ -12,7 +12,7 @@ use lxt_chains::whole::judged;
 use lxt_format::Judgement;
 use lxt_format::Summary;
 
-// n, C, T, timescale and initial symbol, or the refusal's number.
+// n, C, T, timescale, initial symbol and whether the padding of every change is 0, or the refusal's number.
 pub fn judge(file: &[u8]) -> Judgement
     ensures { λ r. ⌜ judgementSays r ≡ judge (now (file .entry)) ⌝ }
 {
@@ -27,5 +27,6 @@ pub fn judge(file: &[u8]) -> Judgement
         end: t.end as u32,
         timescale: t.timescale,
         initial: t.initial,
+        clean: j.clean,
     })
 }

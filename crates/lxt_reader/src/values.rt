@@ -2,11 +2,12 @@
 ghost use mathlib.Core.Path.{_≡_};
 ghost use Prim.Native.Nat.{_≤_, _<_};
 ghost use lib.ListN.{length};
-ghost use Rattle.lxt_format.specs.Basics.{given, refused};
+ghost use Rattle.lxt_format.specs.Basics.{given};
 ghost use Rattle.lxt_format.specs.Answers.{shown, valueSays, timedSays};
 ghost use Rattle.lxt_format.specs.Questions.{holdingBits, changeAsked, changeBuffer, valueAsked, valueBuffer};
-ghost use Rattle.lxt_reader.specs.Reading.{startContent};
+ghost use Rattle.lxt_reader.specs.Reading.{startContent, notRead};
 use crate::changes;
+use lxt_changes::padding::is_clean;
 use lxt_format::Kind;
 use lxt_format::TimedValue;
 use lxt_format::Value;
@@ -34,15 +35,16 @@ fn initial(kind: Kind, width: u32, code: u8, bits: &mut [u8]) -> Value
 }
 
 fn no_change(n: u8) -> TimedValue
-    ensures { λ r. ⌜ timedSays r ≡ (0, refused n) ⌝ }
+    ensures { λ r. ⌜ timedSays r ≡ notRead n ⌝ }
 {
     TimedValue {
         time: 0,
         value: Value::Refused(n),
+        clean: false,
     }
 }
 
-// A change's time and value; its symbols fill the first bytes of the lent buffer.
+// A change's time and value, and whether its padding is 0; its symbols fill the first bytes of the lent buffer.
 pub fn of_change(file: &[u8], facility: u32, offset: u32, bits: &mut [u8]) -> TimedValue
     ensures { λ r. ⌜ (timedSays r ≡ changeAsked (now (file .entry)) facility offset (length (now (bits .entry)))) × (now (bits .exit) ≡ changeBuffer (now (file .entry)) facility offset (now (bits .entry))) ⌝ }
 {
@@ -59,8 +61,9 @@ pub fn of_change(file: &[u8], facility: u32, offset: u32, bits: &mut [u8]) -> Ti
     let order = t.order;
     let o = offset as usize;
     let time = times::time_of(file, t.times as usize, t.time_count, o);
+    let clean = is_clean(file, kind, facts.width, o);
     let value = read(file, t.end, order, kind, facts.width, o, bits);
-    TimedValue { time, value }
+    TimedValue { time, value, clean }
 }
 
 // The value at a time, by the latest change; its symbols fill the first bytes of the lent buffer.

@@ -50,7 +50,7 @@ symbols-long s width o d =
     packed-long : (b p : ℕ) → Sizes b p → symbolSize (commandOf s o) ≡ b → 0 < b → length (symbolsAt s width o) ≡ width
     packed-long b p z e l =
         let n : symbolSize (commandOf s o) ≡ 0 → ⊥ = omega arith in
-        simp (ne-eqb _ 0 n) (rw e (symbols-length b p z s width (dataAt s o) (record { inside = rw (← e) (d .inside); codes = rw (← e) (d .codes n) })))
+        simp (ne-eqb _ 0 n) (rw e (symbols-length b p z s width (dataAt s o) (record { inside = rw (← e) (d .inside); codes = rw (← e) (d .codes) })))
 
     none-long : symbolSize (commandOf s o) ≡ 0 → length (symbolsAt s width o) ≡ width
     none-long e = simp (eq-eqb _ 0 e) (length-replicate width _)

@@ -6,19 +6,14 @@ use mathlib.Core.List.{List}
 use lib.ListN.{length}
 use lib.Dec.{eqb}
 use native.Mathlib.Omega.{arith}
-use borrow.Author.Tests.{leb-true, eqb-true, ne-eqb}
-use Rattle.lxt_format.specs.BasicsLaws.{and-both, or-either}
-use Rattle.lxt_format.specs.Changes.{signal, commandAllowed, codesAllowed, paddingAllowed, symbolsAllowed, dataSize, dataAllowed, changeEnd}
+use borrow.Author.Tests.{leb-true, eqb-true}
+use Rattle.lxt_format.specs.BasicsLaws.{or-either}
+use Rattle.lxt_format.specs.Changes.{signal, commandAllowed, dataSize, dataAllowed, changeEnd}
 use Rattle.lxt_format.specs.ChangesLaws.{Sound}
 use Rattle.lxt_format.specs.declared.Kind.{Kind}
 use Rattle.lxt_format.specs.declared.Kind.the-variants.{Bits, Integer, Real, Text}
 use Rattle.lxt_changes.specs.Faults.{symbolic}
 use Rattle.lxt_values.specs.Symbols.{Drawn}
-
--- where there is data, allowed symbols have allowed codes
-codes-of : (s : List ℕ) (b width o : ℕ) → symbolsAllowed s b width o ≡ true → (b ≡ 0 → ⊥) → codesAllowed s b width o ≡ true
-unfolding symbolsAllowed
-codes-of s b width o h n = and-both (codesAllowed s b width o) (paddingAllowed s b width o) (simp (ne-eqb b 0 n) at h) .0
 
 -- the commands of an integer are commands of bits
 integer-command : (c : ℕ) → commandAllowed Integer c ≡ true → c ≤ 0xB
@@ -33,10 +28,10 @@ unfolding symbolic changeEnd dataSize dataAllowed commandAllowed
 sound-drawn s C T Bits width o k t d =
     let a = d .before in
     let e = d .ends in
-    record { starts = omega arith; inside = omega arith; command = leb-true _ _ (d .command); codes = codes-of s _ width _ (d .data′) }
+    record { starts = omega arith; inside = omega arith; command = leb-true _ _ (d .command); codes = d .data′ }
 sound-drawn s C T Integer width o k t d =
     let a = d .before in
     let e = d .ends in
-    record { starts = omega arith; inside = omega arith; command = integer-command _ (d .command); codes = codes-of s _ width _ (d .data′) }
+    record { starts = omega arith; inside = omega arith; command = integer-command _ (d .command); codes = d .data′ }
 sound-drawn s C T Real width o k t d = absurd (false≢true k)
 sound-drawn s C T Text width o k t d = absurd (false≢true k)

@@ -178,7 +178,7 @@ module _ (s : List ℕ) (width o : ℕ) (k : Drawn s width o) (at : ℕ) (at-is 
     drawn-data =
         record {
           inside = rw (size-is, ← at-is) at (k .inside);
-          codes = rw (size-is, ← at-is) at (k .codes (rw size-is some-data));
+          codes = rw (size-is, ← at-is) at (k .codes);
         }
 
     -- its symbols are those of the change

@@ -16,4 +16,4 @@ pub record Drawn (s : List ℕ) (width o : ℕ) : Type 0 where
   pub starts : o < length s
   pub inside : dataAt s o + packedSize (symbolSize (commandOf s o)) width ≤ length s
   pub command : commandOf s o ≤ 0xB
-  pub codes : (symbolSize (commandOf s o) ≡ 0 → ⊥) → codesAllowed s (symbolSize (commandOf s o)) width (dataAt s o) ≡ true
+  pub codes : codesAllowed s (symbolSize (commandOf s o)) width (dataAt s o) ≡ true

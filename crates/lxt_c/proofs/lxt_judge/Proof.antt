@@ -9,8 +9,11 @@ judge-requires c κs = search needs
 enum-known-j : tie.Need-enum-known-j
 enum-known-j c = search needs
 
-cast-t9 : tie.Need-cast-t9
-cast-t9 c = search needs
+yes-no-requires : tie.Need-yes-no-requires
+yes-no-requires c κs = search needs
+
+cast-t10 : tie.Need-cast-t10
+cast-t10 c = search needs
 
 enum-known-j-2 : tie.Need-enum-known-j-2
 enum-known-j-2 c = search needs
@@ -27,4 +30,4 @@ returns-2 c = (search refused-number, (search refused-same, search refused-times
 pub lxt-judge-spec : {M : Type 1} → statement M
 lxt-judge-spec =
     tie.close
-    (tie.spec judge-requires enum-known-j cast-t9 enum-known-j-2 cast-result returns returns-2)
+    (tie.spec judge-requires enum-known-j yes-no-requires cast-t10 enum-known-j-2 cast-result returns returns-2)

@@ -1,4 +1,4 @@
-use Rattle.lxt_chains.proofs.WholeWays.{tables-refused}
+use Rattle.lxt_chains.proofs.WholeWays.{tables-refused, tables-accepted}
 use borrow.Author.Needs.{needs}
 use Rattle.lxt_chains.proofs.whole.judged.Statement.{statement}
 use Rattle.lxt_chains.proofs.whole.judged.Tie as tie
@@ -7,13 +7,13 @@ tables-requires : tie.Need-tables-requires
 tables-requires c κs = search needs
 
 returns : tie.Need-returns
-returns c = (search tables-refused, search needs)
+returns c = search tables-refused
 
 chains-refusal-requires : tie.Need-chains-refusal-requires
 chains-refusal-requires c κs = search needs
 
 returns-2 : tie.Need-returns-2
-returns-2 c = search needs
+returns-2 c = search tables-accepted
 
 pub judged-spec : {M : Type 1} → statement M
 judged-spec = tie.close (tie.spec tables-requires returns chains-refusal-requires returns-2)

@@ -4,10 +4,10 @@ use Rattle.lxt_changes.proofs.fault.first_fault.Statement.{statement}
 use Rattle.lxt_changes.proofs.fault.first_fault.Tie as tie
 
 abbrev Inv-loop : tie.InvT-loop
-Inv-loop file from end zero kind width start o₀ w₀ o w = Left file from end kind width start o w
+Inv-loop file from end zero kind width start o₀ clean₀ w₀ o clean w = Left file from end kind width start o clean w
 
 abbrev μ-loop : tie.MeasureT-loop
-μ-loop file from end zero kind width start o₀ w₀ o w = o
+μ-loop file from end zero kind width start o₀ clean₀ w₀ o clean w = o
 
 loop-holds : tie.Need-loop-holds Inv-loop μ-loop
 loop-holds c = search at-start
@@ -20,9 +20,11 @@ returns c = search fault-found
 
 previous-requires : tie.Need-previous-requires Inv-loop μ-loop
 previous-requires c κs =
-    let at = c .before .before .before .before .before in
-    inside _ _ _ _ _ _ _ _ (at .loop .inv) (c .before .before .before .before .loop-test .taken) _ (c .before .before .before .change-fault .ensures) (c .before .if1 .left)
-    (at .before .before .pre .within)
+    let tested = c .before .before in
+    let found = tested .before .before in
+    let turn = found .before .before in
+    inside _ _ _ _ _ _ _ _ _ (turn .loop .inv) (found .before .loop-test .taken) _ (found .change-fault .ensures) (tested .if1 .left)
+    (turn .before .before .pre .within)
 
 loop-less : tie.Need-loop-less Inv-loop μ-loop
 loop-less c = search falls

@@ -22,8 +22,8 @@ add-if1 c = search needs
 returns : tie.Need-returns
 returns c = search symbols-out
 
-data-allowed-requires : tie.Need-data-allowed-requires
-data-allowed-requires c κs =
+codes-allowed-requires : tie.Need-codes-allowed-requires
+codes-allowed-requires c κs =
     let sizes = c .before .before .before in
     let pre = sizes .before .before .before .pre in (
       pre .0,
@@ -33,6 +33,9 @@ data-allowed-requires c κs =
 
 returns-2 : tie.Need-returns-2
 returns-2 c = search (symbols-wrong, not-true)
+
+padding-clean-requires : tie.Need-padding-clean-requires
+padding-clean-requires c κs = search needs
 
 returns-3 : tie.Need-returns-3
 returns-3 c = search (symbols-right, not-false)
@@ -47,6 +50,7 @@ symbol-fault-spec =
     packed-size-requires
     add-if1
     returns
-    data-allowed-requires
+    codes-allowed-requires
     returns-2
+    padding-clean-requires
     returns-3)

@@ -1,54 +1,34 @@
-use Rattle.lxt_changes.proofs.SymbolLaws.{low-bad, high-bad, grown, within}
+use native.Mathlib.Omega.{arith}
+use Rattle.lxt_changes.proofs.CodeLaws.{small, last-within, even, odd}
 use borrow.Author.Needs.{needs}
 use Rattle.lxt_changes.proofs.symbols.codes_allowed.Statement.{statement}
 use Rattle.lxt_changes.proofs.symbols.codes_allowed.Tie as tie
 
-codes-anew-requires : tie.Need-codes-anew-requires
-codes-anew-requires c κs = search needs
-
 returns : tie.Need-returns
-returns c = search needs
+returns c = search small
 
-codes-anew-requires-2 : tie.Need-codes-anew-requires-2
-codes-anew-requires-2 c κs = search needs
+add-last : tie.Need-add-last
+add-last c = search needs
+
+all-good-requires : tie.Need-all-good-requires
+all-good-requires c κs =
+    let pre = c .before .before .pre in
+    (pre .0, (omega arith, last-within _ _ _ _ _ (pre .0) (pre .1) (c .if1 .left) .0))
 
 returns-2 : tie.Need-returns-2
-returns-2 c = search needs
+returns-2 c = search even
 
-good-from-requires : tie.Need-good-from-requires
-good-from-requires c κs = search needs
+shared-slice-read-byte : tie.Need-shared-slice-read-byte
+shared-slice-read-byte c =
+    let parity = c .before in
+    let four = parity .before .before in
+    let pre = four .before .before .pre in
+    last-within _ _ _ _ _ (pre .0) (pre .1) (four .if1 .left) .1 (parity .if2 .left)
 
 returns-3 : tie.Need-returns-3
-returns-3 c =
-    let met = c .before .before in
-    low-bad _ _ _ _ (met .before .before .before .before .before .pre .0) (met .before .before .if1 .left) (met .if2 .left) _ (c .before .good-from .ensures) (c .if3 .taken)
-
-good-from-requires-2 : tie.Need-good-from-requires-2
-good-from-requires-2 c κs = search needs
-
-returns-4 : tie.Need-returns-4
-returns-4 c =
-    let met = c .before .before .before .before .before in
-    high-bad _ _ _ _ (met .before .before .before .before .before .pre .0) (met .before .before .if1 .left) (met .if2 .left) _
-    (c .before .before .before .before .good-from .ensures) (c .before .before .before .if3 .left) _ (c .before .before .good-from2 .ensures) (c .if4 .taken)
-
-returns-5 : tie.Need-returns-5
-returns-5 c = search grown
-
-returns-6 : tie.Need-returns-6
-returns-6 c = search within
+returns-3 c = search odd
 
 pub codes-allowed-spec : {M : Type 1} → statement M
 codes-allowed-spec =
     tie.close
-    (tie.spec
-    codes-anew-requires
-    returns
-    codes-anew-requires-2
-    returns-2
-    good-from-requires
-    returns-3
-    good-from-requires-2
-    returns-4
-    returns-5
-    returns-6)
+    (tie.spec returns add-last all-good-requires returns-2 shared-slice-read-byte returns-3)

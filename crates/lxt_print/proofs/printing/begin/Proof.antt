@@ -22,7 +22,7 @@ returns : tie.Need-returns
 returns c = search refusal-left
 
 all-lines-requires : tie.Need-all-lines-requires
-all-lines-requires c κs = lines-ask _ _ _ _ (c .before .before .before .before .before .before .before .before .before .pre) _ (c .before .before .refusal .ensures) (c .before .if1 .left) _ (c .before .before .before .before .judged .ensures .1)
+all-lines-requires c κs = lines-ask _ _ _ _ (c .before .before .before .before .before .before .before .before .before .pre) _ (c .before .before .refusal .ensures) (c .before .if1 .left) _ (c .before .before .before .before .judged .ensures .tables)
 
 same-length-2 : tie.Need-same-length-2
 same-length-2 c = search needs

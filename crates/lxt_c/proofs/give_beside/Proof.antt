@@ -1,8 +1,8 @@
-use Rattle.lxt_c.specs.Numbers.{timeBy}
-use Rattle.lxt_c.proofs.GiveLaws.{bits-time, real-time, text-time}
+use Rattle.lxt_c.specs.Numbers.{besideValue}
+use Rattle.lxt_c.proofs.GiveLaws.{bits-beside, real-beside, text-beside}
 use borrow.Author.Needs.{needs}
-use Rattle.lxt_c.proofs.give_time.Statement.{statement}
-use Rattle.lxt_c.proofs.give_time.Tie as tie
+use Rattle.lxt_c.proofs.give_beside.Statement.{statement}
+use Rattle.lxt_c.proofs.give_beside.Tie as tie
 
 enum-told : tie.Need-enum-told
 enum-told c = search needs
@@ -20,24 +20,24 @@ enum-told-5 : tie.Need-enum-told-5
 enum-told-5 c = search needs
 
 returns : tie.Need-returns
-returns c = search bits-time
+returns c = search bits-beside
 
 returns-2 : tie.Need-returns-2
-returns-2 c = search real-time
+returns-2 c = search real-beside
 
 returns-3 : tie.Need-returns-3
-returns-3 c = search text-time
+returns-3 c = search text-beside
 
 returns-4 : tie.Need-returns-4
-unfolding timeBy
+unfolding besideValue
 returns-4 c = search needs
 
 returns-5 : tie.Need-returns-5
-unfolding timeBy
+unfolding besideValue
 returns-5 c = search needs
 
-pub give-time-spec : {M : Type 1} → statement M
-give-time-spec =
+pub give-beside-spec : {M : Type 1} → statement M
+give-beside-spec =
     tie.close
     (tie.spec
     enum-told

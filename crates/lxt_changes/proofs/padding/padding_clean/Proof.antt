@@ -1,8 +1,9 @@
 use native.Mathlib.Omega.{arith}
-use Rattle.lxt_changes.proofs.SymbolLaws.{product, unused-lt, one-byte, padding-is}
+use Rattle.lxt_changes.proofs.SymbolLaws.{product}
+use Rattle.lxt_changes.proofs.PaddingLaws.{unused-lt, padding-is}
 use borrow.Author.Needs.{needs}
-use Rattle.lxt_changes.proofs.symbols.padding_allowed.Statement.{statement}
-use Rattle.lxt_changes.proofs.symbols.padding_allowed.Tie as tie
+use Rattle.lxt_changes.proofs.padding.padding_clean.Statement.{statement}
+use Rattle.lxt_changes.proofs.padding.padding_clean.Tie as tie
 
 packed-size-requires : tie.Need-packed-size-requires
 packed-size-requires c κs = search needs
@@ -11,7 +12,7 @@ mul-power-of-2 : tie.Need-mul-power-of-2
 mul-power-of-2 c = search needs
 
 mul-power-of-2-2 : tie.Need-mul-power-of-2-2
-mul-power-of-2-2 c = omega (arith, product _ _ (c .before .before .pre .0 .1) (c .before .before .pre .1 .0 .1))
+mul-power-of-2-2 c = omega (arith, product _ _ (c .before .before .pre .0 .0) (c .before .before .pre .0 .1))
 
 sub-power-of-2 : tie.Need-sub-power-of-2
 sub-power-of-2 c = unused-lt _ _ _ (c .packed-size .ensures .0) .0
@@ -23,10 +24,10 @@ add-wide : tie.Need-add-wide
 add-wide c = search needs
 
 sub-wide : tie.Need-sub-wide
-sub-wide c = omega (arith, one-byte _ _ _ (c .before .before .before .pre .0 .0) (c .before .before .before .pre .1 .0 .0) (c .before .packed-size .ensures .0))
+sub-wide c = search needs
 
 shared-slice-read-wide : tie.Need-shared-slice-read-wide
-shared-slice-read-wide c = omega (arith, one-byte _ _ _ (c .before .before .before .before .pre .0 .0) (c .before .before .before .before .pre .1 .0 .0) (c .before .before .packed-size .ensures .0))
+shared-slice-read-wide c = search needs
 
 wide-requires : tie.Need-wide-requires
 wide-requires c κs = search needs
@@ -37,8 +38,8 @@ rem-result c = search needs
 returns : tie.Need-returns
 returns c = search padding-is
 
-pub padding-allowed-spec : {M : Type 1} → statement M
-padding-allowed-spec =
+pub padding-clean-spec : {M : Type 1} → statement M
+padding-clean-spec =
     tie.close
     (tie.spec
     packed-size-requires

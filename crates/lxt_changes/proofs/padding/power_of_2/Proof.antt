@@ -2,9 +2,9 @@ use mathlib.Core.Path.{_≡_}
 use borrow.Author.Needs.{needs}
 use lib.Dec.{lit<}
 use native.Mathlib.Omega.{arith}
-use Rattle.lxt_changes.proofs.SymbolLaws.{power, seven}
-use Rattle.lxt_changes.proofs.symbols.power_of_2.Statement.{statement}
-use Rattle.lxt_changes.proofs.symbols.power_of_2.Tie as tie
+use Rattle.lxt_changes.proofs.PaddingLaws.{power, seven}
+use Rattle.lxt_changes.proofs.padding.power_of_2.Statement.{statement}
+use Rattle.lxt_changes.proofs.padding.power_of_2.Tie as tie
 
 returns : tie.Need-returns
 returns c = let e : c .before .args .k ≡ 0 = omega arith in power _ 0 e (lit< tt)
