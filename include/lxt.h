@@ -101,7 +101,14 @@ typedef struct {
     uint32_t changes;    /* C, where the changes start */
     uint32_t end;        /* T, the offset of the END byte */
     uint32_t initial;    /* the code of the initial symbol, 0 to 8: its place in LXT_SYMBOLS */
+    uint32_t clean;      /* 1 where the padding of every change of every root is clean, else 0; 1 where there
+                            are no changes */
 } lxt_summary;
+
+/* Padding: the symbols of a change fill whole bytes, and the bits of the last data byte that no symbol uses are
+ * padding. It is clean where all of them are 0. Any other bits there are accepted and change no value; clean
+ * says only whether they were there. A real, a text, a change without data and one whose symbols use every
+ * bit are always clean. */
 
 /* The symbols that bits and integers are written in, by their codes. */
 #define LXT_SYMBOLS "01ZXHUWL-"
@@ -157,9 +164,9 @@ typedef struct {
     uint64_t length;
 } lxt_value;
 
-/* The time and the value of the change at an offset. */
+/* The time and the value of the change at an offset, and clean: 1 where its padding is clean, else 0. */
 uint32_t lxt_change(const uint8_t *file, size_t length, uint32_t facility, uint32_t offset, uint8_t *bits,
-                    size_t room, uint32_t *time, lxt_value *value);
+                    size_t room, uint32_t *time, lxt_value *value, uint32_t *clean);
 
 /* The value at a time: that of the change of highest offset whose time is at most that. */
 uint32_t lxt_value_at(const uint8_t *file, size_t length, uint32_t facility, uint32_t time, uint8_t *bits,
