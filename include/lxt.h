@@ -95,20 +95,20 @@ enum lxt_refusal {
     LXT_REFUSED_ASKED = 22
 };
 
+/* Padding is the bits of a change's last data byte that no symbol uses: symbols fill whole bytes. It is clean
+ * where all of these bits are 0. Rubbish there is accepted and changes no value; clean says only whether
+ * there was some. A real, a text, a change without data and one whose symbols use every bit are always
+ * clean. */
+
 /* What judging answers of an accepted file. */
 typedef struct {
     uint32_t facilities; /* n; facilities have the numbers 0 to n - 1 */
     uint32_t changes;    /* C, where the changes start */
     uint32_t end;        /* T, the offset of the END byte */
     uint32_t initial;    /* the code of the initial symbol, 0 to 8: its place in LXT_SYMBOLS */
-    uint32_t clean;      /* 1 where the padding of every change of every root is clean, else 0; 1 where there
-                            are no changes */
+    uint32_t clean;      /* 1 where the padding of every change of every root is clean, so too where there
+                            are no changes; else 0 */
 } lxt_summary;
-
-/* Padding: the symbols of a change fill whole bytes, and the bits of the last data byte that no symbol uses are
- * padding. It is clean where all of them are 0. Any other bits there are accepted and change no value; clean
- * says only whether they were there. A real, a text, a change without data and one whose symbols use every
- * bit are always clean. */
 
 /* The symbols that bits and integers are written in, by their codes. */
 #define LXT_SYMBOLS "01ZXHUWL-"
