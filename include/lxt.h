@@ -95,12 +95,19 @@ enum lxt_refusal {
     LXT_REFUSED_ASKED = 22
 };
 
+/* Padding is the bits of a change's last data byte that no symbol uses: symbols fill whole bytes. It is clean
+ * where all of these bits are 0. Rubbish there is accepted and changes no value; clean says only whether
+ * there was some. A real, a text, a change without data and one whose symbols use every bit are always
+ * clean. */
+
 /* What judging answers of an accepted file. */
 typedef struct {
     uint32_t facilities; /* n; facilities have the numbers 0 to n - 1 */
     uint32_t changes;    /* C, where the changes start */
     uint32_t end;        /* T, the offset of the END byte */
     uint32_t initial;    /* the code of the initial symbol, 0 to 8: its place in LXT_SYMBOLS */
+    uint32_t clean;      /* 1 where the padding of every change of every root is clean, so too where there
+                            are no changes; else 0 */
 } lxt_summary;
 
 /* The symbols that bits and integers are written in, by their codes. */
@@ -157,9 +164,9 @@ typedef struct {
     uint64_t length;
 } lxt_value;
 
-/* The time and the value of the change at an offset. */
+/* The time and the value of the change at an offset, and clean: 1 where its padding is clean, else 0. */
 uint32_t lxt_change(const uint8_t *file, size_t length, uint32_t facility, uint32_t offset, uint8_t *bits,
-                    size_t room, uint32_t *time, lxt_value *value);
+                    size_t room, uint32_t *time, lxt_value *value, uint32_t *clean);
 
 /* The value at a time: that of the change of highest offset whose time is at most that. */
 uint32_t lxt_value_at(const uint8_t *file, size_t length, uint32_t facility, uint32_t time, uint8_t *bits,

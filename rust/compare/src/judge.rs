@@ -12,17 +12,31 @@ pub const TRACE: [u8; 95] = [
     0x00, 0x00, 0x08, 0x03, 0x00, 0x00, 0x00, 0x14, 0x04, 0x00, 0x00, 0x00, 0x28, 0x06, 0xB4,
 ];
 
-/// Judges a file both ways and counts the answer: 0 for an accepted file.
-pub fn compare(file: &[u8], what: &str, seen: &mut BTreeMap<u8, u32>) {
+/// What was judged.
+#[derive(Debug, Default)]
+pub struct Seen {
+    /// By the answer: 0 for an accepted file, else the refusal's number.
+    pub answers: BTreeMap<u8, u32>,
+    /// The accepted files by whether all their padding is clean.
+    pub padding: BTreeMap<bool, u32>,
+}
+
+/// Judges a file both ways and counts the answer.
+pub fn compare(file: &[u8], what: &str, seen: &mut Seen) {
     let proved = lxt::judge(file).map(|summary| lxt_reference::Summary {
         facilities: summary.facilities,
         changes: summary.changes,
         end: summary.end,
         timescale: summary.timescale,
         initial: summary.initial,
+        clean: summary.clean,
     });
     let proved = proved.map_err(|refusal| refusal.number());
     let expected = lxt_reference::judge(file);
     assert_eq!(proved, expected, "{what}");
-    *seen.entry(expected.err().unwrap_or(0)).or_default() += 1;
+    let answer = expected.err().unwrap_or(0);
+    *seen.answers.entry(answer).or_default() += 1;
+    if let Ok(summary) = expected {
+        *seen.padding.entry(summary.clean).or_default() += 1;
+    }
 }

@@ -74,7 +74,7 @@ pub fn can_refuse(call: &str, number: u8) -> bool {
 #[derive(Default)]
 pub struct Compared {
     pub files: u64,
-    judged: BTreeMap<u8, u32>,
+    judged: judge::Seen,
     questions: questions::Seen,
     walks: walk::Seen,
 }
@@ -107,12 +107,19 @@ impl Compared {
     /// How many times each call gave each answer: 0, or a refusal's number.
     pub fn answers(&self) -> BTreeMap<(&'static str, u8), u64> {
         let mut answers = BTreeMap::new();
-        let judged = self.judged.iter();
+        let judged = self.judged.answers.iter();
         let judged = judged.map(|(number, count)| ("judge", *number, u64::from(*count)));
         let others = self.questions.answers().chain(self.walks.answers());
         for (call, number, count) in judged.chain(others) {
             *answers.entry((call, number)).or_default() += count;
         }
         answers
+    }
+
+    /// What was said of padding, by call: how many times clean, and how many times not.
+    pub fn padding(&self) -> [(&'static str, [u64; 2]); 2] {
+        let judged = |clean| self.judged.padding.get(&clean).copied().unwrap_or(0);
+        let judged = [true, false].map(|clean| u64::from(judged(clean)));
+        [("judge", judged), ("change", self.questions.padding())]
     }
 }

@@ -76,6 +76,15 @@ fn sort_of(value: &lxt_reference::Value) -> &'static str {
     }
 }
 
+/// That of a change: padding is of bits alone.
+fn sort_of_change(read: &lxt_reference::Changed) -> &'static str {
+    match (sort_of(&read.value), read.clean) {
+        (sort, true) => sort,
+        ("bits", false) => "dirty bits",
+        (sort, false) => panic!("{sort} with padding"),
+    }
+}
+
 /// What was compared: the questions by their answer's sort or their refusal's number.
 #[derive(Default)]
 pub struct Seen(BTreeMap<(&'static str, &'static str, u8), u64>);
@@ -91,6 +100,21 @@ impl Seen {
     pub fn answers(&self) -> impl Iterator<Item = (&'static str, u8, u64)> + '_ {
         let counts = self.0.iter();
         counts.map(|((question, _, number), count)| (*question, *number, *count))
+    }
+
+    /// How many changes were read whose padding is clean, and how many whose is not.
+    pub fn padding(&self) -> [u64; 2] {
+        let read = |of: fn(&str) -> bool| {
+            let counts = self.0.iter();
+            let counts = counts.filter(|((question, sort, number), _)| {
+                (*question, *number) == ("change", 0) && of(sort)
+            });
+            counts.map(|(_, count)| count).sum()
+        };
+        [
+            read(|sort| sort != "dirty bits"),
+            read(|sort| sort == "dirty bits"),
+        ]
     }
 
     pub fn report(&self, what: &str) {
@@ -232,12 +256,16 @@ impl<'a> Asked<'a> {
 
     fn change(&mut self, facility: u32, offset: u32, room: usize) {
         let (mut ours, mut theirs) = (marked(room), marked(room));
-        let proved = lxt::change(self.file, facility, offset, lent(&mut ours))
-            .map(|(time, value)| (time, plain(value)));
+        let proved = lxt::change(self.file, facility, offset, lent(&mut ours));
+        let proved = proved.map(|read| lxt_reference::Changed {
+            time: read.time,
+            value: plain(read.value),
+            clean: read.clean,
+        });
         let expected = self.expect(|judged| judged.change(facility, offset, lent(&mut theirs)));
         self.same(
             ("change", &[facility, offset, room as u32]),
-            |(_, value)| sort_of(value),
+            sort_of_change,
             (proved, &ours),
             (expected, &theirs),
         );
@@ -292,8 +320,9 @@ pub fn compare(file: &[u8], what: &str, most: Most, seen: &mut Seen) {
         let own = sample(&chains[root], most.changes);
         // The time of a change is asked of the reader, with room for every value.
         let mut room = vec![0; facts.width as usize];
-        let time = |offset: &u32| judged.change(facility, *offset, &mut room).expect("time").0;
-        let times: Vec<u32> = own.iter().map(time).collect();
+        let read = |offset: &u32| judged.change(facility, *offset, &mut room);
+        let times = own.iter().map(read).map(|it| it.expect("a change").time);
+        let times: Vec<u32> = times.collect();
 
         let mut offsets = around(&own);
         offsets.extend(around(&[summary.changes, summary.end]));

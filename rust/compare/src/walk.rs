@@ -519,9 +519,15 @@ pub fn whole_walks(file: &[u8], what: &str, seen: &mut Seen) {
         60_001..=200_000 => 5,
         _ => 3,
     };
+    let clean = judged.summary().clean;
     for asked in asked_sets(&judged, &mut random) {
         let list = judged.full_list(&asked).expect("a full list");
         whole_walk(&mut calls, &asked, &list, most, &mut random);
+        let mut bits = [0; lxt::WIDEST];
+        let mut read = |(root, offset): &(u32, u32)| judged.change(*root, *offset, &mut bits);
+        if !clean && list.iter().any(|it| read(it).is_ok_and(|it| !it.clean)) {
+            calls.seen.meet("whole walks over dirty changes");
+        }
     }
 }
 

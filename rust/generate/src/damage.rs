@@ -5,7 +5,7 @@
 
 use crate::draft::{change_bytes, least_k, Change, Draft, Kind};
 use crate::random::Random;
-use crate::valid::{pack, NEEDED, REAL_TEST};
+use crate::valid::{pack, rubbish, NEEDED, REAL_TEST};
 
 /// The two sides of a boundary.
 #[derive(Clone, Debug)]
@@ -89,10 +89,16 @@ pub const DAMAGES: &[Damage] = &[
     damage(16, "bits 7 and 6", high_bits),
     damage(16, "command of another kind", wrong_command),
     damage(16, "command before the change's end", wrong_command_at_end),
-    damage(16, "unused bits", unused_bits),
     damage(16, "code 9", code_above_8),
+    damage(16, "code 9 beside rubbish", code_beside_rubbish),
     damage(17, "one offset from two roots", shared_offset),
     damage(17, "one byte shared by two roots", shared_byte),
+    damage(17, "rubbish shared by two roots", shared_rubbish),
+    damage(
+        17,
+        "rubbish shared by changes of one root",
+        shared_rubbish_of_root,
+    ),
     damage(
         17,
         "one byte shared by changes of one root",
@@ -933,32 +939,6 @@ fn wrong_command_at_end(draft: &Draft, random: &mut Random) -> Option<Neighbours
     })
 }
 
-/// How many bits of the last data byte of a change are used; 0 means all, or no data.
-fn used_in_last(draft: &Draft, change: &Change) -> usize {
-    let bits_a_symbol = match change.command {
-        0 => 1,
-        1 => 2,
-        2 => 4,
-        _ => 0,
-    };
-    draft.facilities[change.root].width as usize * bits_a_symbol % 8
-}
-
-fn unused_bits(draft: &Draft, random: &mut Random) -> Option<Neighbours> {
-    let change = any_change(draft, random, |change| {
-        draft.facilities[change.root].kind == Kind::Bits && used_in_last(draft, change) > 0
-    })?;
-    let used = used_in_last(draft, &change);
-    let last = change.end - 1;
-    let mut near = draft.clone();
-    // All unused bits 0 and the lowest used bit 1; that is a sound code in every form.
-    near.set(last, &[0x80 >> (used - 1)]);
-    let mut over = near.clone();
-    let bit = random.pick(&[used, 7, random.clone().within(used as u64, 7) as usize]);
-    over.set(last, &[near.byte(last) | 0x80 >> bit]);
-    accepted(near, over)
-}
-
 fn code_above_8(draft: &Draft, random: &mut Random) -> Option<Neighbours> {
     let change = any_change(draft, random, |change| {
         draft.facilities[change.root].kind == Kind::Bits && change.command == 2
@@ -976,6 +956,38 @@ fn code_above_8(draft: &Draft, random: &mut Random) -> Option<Neighbours> {
         draft.set(at, &[byte]);
     }
     accepted(near, over)
+}
+
+/// Of an odd width the unused nibble may be 9 to F; the nibble in use beside it may not.
+fn code_beside_rubbish(draft: &Draft, random: &mut Random) -> Option<Neighbours> {
+    let change = any_change(draft, random, |change| {
+        draft.bits_a_symbol(change) == 4 && draft.unused_bits(change) == 4
+    })?;
+    let above_8 = random.within(9, 15) as u8;
+    let (mut near, mut over) = (draft.clone(), draft.clone());
+    near.set(change.end - 1, &[random.pick(&[0, 8]) << 4 | above_8]);
+    let beside = random.pick(&[0, above_8]);
+    over.set(change.end - 1, &[random.pick(&[9, above_8]) << 4 | beside]);
+    accepted(near, over)
+}
+
+/// The draft with all padding clean, and the same with rubbish in one change. None where it has no
+/// padding.
+pub fn clean_and_dirty(draft: &Draft, random: &mut Random) -> Option<[Draft; 2]> {
+    let padded = any_change(draft, random, |change| draft.unused_bits(change) > 0)?;
+    let mut clean = draft.clone();
+    for change in &draft.changes {
+        let unused = draft.unused_bits(change);
+        if unused > 0 {
+            let last = change.end - 1;
+            clean.set(last, &[draft.byte(last) >> unused << unused]);
+        }
+    }
+    let mut dirty = clean.clone();
+    let last = padded.end - 1;
+    let rubbish = rubbish(random, draft.unused_bits(&padded));
+    dirty.set(last, &[clean.byte(last) | rubbish]);
+    Some([clean, dirty])
 }
 
 // ---- 17: changes that share a byte ----
@@ -1017,15 +1029,41 @@ fn ending_value(draft: &Draft, root: usize, last: u8) -> Option<(u8, Vec<u8>)> {
     Some((0, data))
 }
 
-/// Appends a change of `first`, then one of `second` right behind it or on its last byte.
-fn behind_or_within(draft: &Draft, first: usize, second: usize) -> Option<Neighbours> {
-    // Four delta bytes, command 3; reals and texts have their data behind.
+/// The same for a root with unused bits in its last data byte, which hold rubbish then.
+fn ending_rubbish(
+    draft: &Draft,
+    random: &mut Random,
+    root: usize,
+    last: u8,
+) -> Option<(u8, Vec<u8>)> {
+    let facility = &draft.facilities[root];
+    let command = random.below(3);
+    let used = facility.width as usize * [1, 2, 4][command];
+    if facility.kind != Kind::Bits || used.is_multiple_of(8) {
+        return None;
+    }
+    let mut data = vec![0; used.div_ceil(8)];
+    *data.last_mut()? = last;
+    Some((command as u8, data))
+}
+
+/// A command byte that any root may have: four delta bytes, command 3.
+const SHARED: u8 = 0x33;
+
+/// Appends a change of `first` whose data end in `SHARED`, then one of `second` right behind it or on
+/// its last byte.
+fn behind_or_within(
+    draft: &Draft,
+    first: usize,
+    second: usize,
+    (command, ending): (u8, Vec<u8>),
+) -> Option<Neighbours> {
+    // Reals and texts have their data behind.
     let data: &[u8] = match draft.facilities[second].kind {
         Kind::Real => &[0; 8],
         Kind::Text => &[0],
         _ => &[],
     };
-    let (command, ending) = ending_value(draft, first, 0x33)?;
     let mut near = draft.clone();
     near.append_change(first, command, 1, &ending);
     near.append_change(second, 3, 4, data);
@@ -1044,13 +1082,30 @@ fn shared_byte(draft: &Draft, random: &mut Random) -> Option<Neighbours> {
     let second = any_root(draft, random)?;
     match first == second {
         true => None,
-        false => behind_or_within(draft, first, second),
+        false => behind_or_within(draft, first, second, ending_value(draft, first, SHARED)?),
     }
 }
 
 fn shared_byte_of_root(draft: &Draft, random: &mut Random) -> Option<Neighbours> {
     let root = root_for_change(draft, random)?;
-    behind_or_within(draft, root, root)
+    behind_or_within(draft, root, root, ending_value(draft, root, SHARED)?)
+}
+
+/// The same where the shared byte has rubbish: that is no refusal by itself.
+fn shared_rubbish(draft: &Draft, random: &mut Random) -> Option<Neighbours> {
+    let first = root_for_change(draft, random)?;
+    let second = any_root(draft, random)?;
+    let ending = ending_rubbish(draft, random, first, SHARED)?;
+    match first == second {
+        true => None,
+        false => behind_or_within(draft, first, second, ending),
+    }
+}
+
+fn shared_rubbish_of_root(draft: &Draft, random: &mut Random) -> Option<Neighbours> {
+    let root = root_for_change(draft, random)?;
+    let ending = ending_rubbish(draft, random, root, SHARED)?;
+    behind_or_within(draft, root, root, ending)
 }
 
 /// A text, then a change of another root; without its zero the text runs over that change.

@@ -48,6 +48,8 @@ pub struct Change {
     pub previous: usize,
     pub time: u32,
     pub value: Meant,
+    /// Whether its unused bits are all 0.
+    pub clean: bool,
 }
 
 /// A trace in parts: the bytes before END, the END byte, the items of the section list from END
@@ -246,6 +248,22 @@ impl Draft {
         self.changes.iter().any(|change| change.root == root)
     }
 
+    /// Bits for each symbol of a change; 0 where there are no data or no symbols.
+    pub fn bits_a_symbol(&self, change: &Change) -> usize {
+        match (self.facilities[change.root].kind, change.command) {
+            (Kind::Bits | Kind::Integer, 0) => 1,
+            (Kind::Bits, 1) => 2,
+            (Kind::Bits, 2) => 4,
+            _ => 0,
+        }
+    }
+
+    /// How many bits of the last data byte of a change no symbol uses.
+    pub fn unused_bits(&self, change: &Change) -> usize {
+        let width = self.facilities[change.root].width as usize;
+        unused_bits(width * self.bits_a_symbol(change))
+    }
+
     /// Appends a change to the end of the body as the newest of its root. Gives its offset.
     pub fn append_change(&mut self, root: usize, command: u8, k: usize, data: &[u8]) -> usize {
         let offset = self.end();
@@ -255,6 +273,11 @@ impl Draft {
         self.set_word(self.sync_at(root), offset as u32);
         offset
     }
+}
+
+/// How many bits of the last byte are left by so many used ones.
+pub fn unused_bits(used: usize) -> usize {
+    used.next_multiple_of(8) - used
 }
 
 /// The least number of bytes that hold a delta.

@@ -2,7 +2,7 @@
 
 use crate::draft::{change_bytes, Draft};
 use crate::tables::{alias, append_tables, bits, Geometry, INTEGER, REAL, TEXT};
-use crate::valid::{valid_of, Shape};
+use crate::valid::{pack, valid_of, Shape};
 use crate::{Case, Random};
 
 /// The longest input of the small program.
@@ -97,16 +97,22 @@ fn text_chain(total: usize, roots: usize, last: Option<Geometry>, zero: bool) ->
     draft.bytes()
 }
 
-/// 4-bit values on one long chain that many roots share, all of `width` but the last root.
+/// 4-bit values on one long chain that many roots share, all of `width` but the last root. Where that is
+/// odd, the bottom's last nibble is rubbish, which a root that is wider by one reads as a code above 8.
 fn code_chain(total: usize, roots: usize, width: u32, last: u32) -> Vec<u8> {
     let mut geometry = vec![bits(width); roots - 1];
     geometry.push(bits(last));
     let mut draft = tables(&geometry);
     let low = draft.end();
-    // A byte more, so that the bottom's data start at an odd distance from those of the others: where
-    // an odd width has its padding, these have a 00, the bottom a 02.
-    draft.append(&change_bytes(low, 0, 0x02, 4, &[0]));
-    let newest = long_chain(&mut draft, total, low, 0x02, 2, &[0x02, 0x00], 2_050);
+    // The bottom's data are its own; those of the others run over each other.
+    let mut data = pack(&vec![0; width as usize], 4);
+    if let (Some(last), 1) = (data.last_mut(), width % 2) {
+        *last |= 0x0F;
+    }
+    draft.append(&change_bytes(low, 0, 0x02, 4, &data));
+    let link = draft.end();
+    draft.append(&change_bytes(link, low, 0x03, 2, &[]));
+    let newest = long_chain(&mut draft, total, link, 0x02, 2, &[0x02, 0x00], 2_050);
     for root in 0..roots {
         set_sync(&mut draft, root, newest);
     }
@@ -219,8 +225,13 @@ pub fn hostile() -> Vec<Case> {
             Err(17),
         ));
         cases.push(case(
+            format!("4-bit values with rubbish, {roots} roots"),
+            code_chain(SMALL, roots, 4_095, 4_095),
+            Err(17),
+        ));
+        cases.push(case(
             format!("4-bit values, {roots} roots, the last refused at the bottom"),
-            code_chain(SMALL, roots, 4_096, 4_095),
+            code_chain(SMALL, roots, 4_095, 4_096),
             Err(16),
         ));
         let mut widths: Vec<Geometry> = (0..roots as u32).map(|less| bits(4_096 - less)).collect();
@@ -502,8 +513,8 @@ pub fn hostile_large() -> Vec<Case> {
         case("longest chain", longest_chain(LONGEST), Ok(())),
         case("texts to one zero, 4,096 roots", texts, Err(17)),
         case(
-            "4-bit values of width 4,096, 4,096 roots",
-            code_chain(LONGEST, 4_096, 4_096, 4_095),
+            "4-bit values, 4,096 roots, the last refused at the bottom",
+            code_chain(LONGEST, 4_096, 4_095, 4_096),
             Err(16),
         ),
         case(

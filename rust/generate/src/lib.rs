@@ -12,7 +12,7 @@ mod random;
 mod tables;
 mod valid;
 
-pub use damage::{blind, Damage, Neighbours, DAMAGES};
+pub use damage::{blind, clean_and_dirty, Damage, Neighbours, DAMAGES};
 pub use dense::dense;
 pub use draft::{change_bytes, Change, Draft, Facility, Kind, Meant};
 pub use hostile::{hostile, hostile_large, most_visits, widest_sharing};
@@ -29,15 +29,17 @@ pub struct Case {
     pub expected: Option<Result<(), u8>>,
 }
 
-/// A file for any seed: valid, near a boundary, over it, over two boundaries, dense, or blindly damaged.
+/// A file for any seed: valid, with clean or dirty padding, near a boundary, over it, over two boundaries,
+/// dense, or blindly damaged.
 pub fn case(seed: u64) -> Case {
     let mut random = Random::new(seed ^ 0x4C58_5400_0000_0000);
     match random.below(20) {
-        0..=4 => Case {
+        0..=3 => Case {
             origin: "valid".to_string(),
             bytes: valid(random.any()).bytes(),
             expected: Some(Ok(())),
         },
+        4 => one_dirty(&mut random),
         5..=7 => {
             let (damage, neighbours) = any_damage(&mut random);
             Case {
@@ -67,6 +69,24 @@ pub fn case(seed: u64) -> Case {
                 bytes: blind(&base, &mut random),
                 expected: None,
             }
+        }
+    }
+}
+
+/// A valid trace of which one change at most is dirty.
+fn one_dirty(random: &mut Random) -> Case {
+    loop {
+        let base = valid(random.any());
+        if let Some([clean, dirty]) = clean_and_dirty(&base, random) {
+            let (origin, draft) = match random.chance(1, 4) {
+                true => ("all padding clean", clean),
+                false => ("one change dirty", dirty),
+            };
+            return Case {
+                origin: origin.to_string(),
+                bytes: draft.bytes(),
+                expected: Some(Ok(())),
+            };
         }
     }
 }

@@ -1,6 +1,6 @@
 //! Valid random traces.
 
-use crate::draft::{change_bytes, least_k, Change, Draft, Facility, Kind, Meant};
+use crate::draft::{change_bytes, least_k, unused_bits, Change, Draft, Facility, Kind, Meant};
 use crate::random::Random;
 use std::collections::{BTreeSet, VecDeque};
 
@@ -79,6 +79,7 @@ struct Event {
     command: u8,
     data: Vec<u8>,
     value: Meant,
+    clean: bool,
 }
 
 /// A valid trace.
@@ -89,6 +90,8 @@ pub fn valid_of(random: &mut Random, shape: &Shape) -> Draft {
     let real_order = real_order(random);
 
     let mut events = VecDeque::new();
+    // Some files are clean as a whole; the others have rubbish in some changes.
+    let rubbish_part = random.pick(&[0, 0, 2, 2, 4, 8]);
     if !roots.is_empty() {
         let most = random.below(shape.changes + 1);
         for _ in 0..random.within(0, most as u64) {
@@ -99,6 +102,7 @@ pub fn valid_of(random: &mut Random, shape: &Shape) -> Draft {
                 &draft.facilities[root],
                 &real_order,
                 shape,
+                rubbish_part,
             ));
         }
     }
@@ -331,7 +335,9 @@ fn event(
     facility: &Facility,
     real_order: &[usize; 8],
     shape: &Shape,
+    rubbish_part: u64,
 ) -> Event {
+    let mut clean = true;
     let width = facility.width as usize;
     let symbols = |codes: &[u8]| {
         Meant::Symbols(
@@ -357,10 +363,17 @@ fn event(
                 0 => vec![command - 3; width],
                 _ => (0..width).map(|_| random.within(0, most) as u8).collect(),
             };
-            let data = match bits_a_symbol {
+            let mut data = match bits_a_symbol {
                 0 => Vec::new(),
                 _ => pack(&codes, bits_a_symbol),
             };
+            let unused = unused_bits(width * bits_a_symbol);
+            if let (Some(last), 1..) = (data.last_mut(), unused) {
+                if random.chance(rubbish_part, 8) {
+                    *last |= rubbish(random, unused);
+                    clean = false;
+                }
+            }
             (command, data, symbols(&codes))
         }
         Kind::Real => {
@@ -394,7 +407,15 @@ fn event(
         command,
         data,
         value,
+        clean,
     }
+}
+
+/// Rubbish of so many bits, not 0: the lowest alone, the highest alone, all, or any.
+pub fn rubbish(random: &mut Random, bits: usize) -> u8 {
+    let all = 0xFF >> (8 - bits);
+    let any = random.within(1, all.into()) as u8;
+    random.pick(&[1, 1 << (bits - 1), all, any])
 }
 
 /// The bodies in any order, before, behind or between the changes.
@@ -456,6 +477,7 @@ fn place(
         previous,
         time: 0,
         value: event.value.clone(),
+        clean: event.clean,
     });
     true
 }

@@ -40,6 +40,8 @@ fn valid_traces_are_read_as_meant() {
         assert_eq!(summary.end as usize, draft.end());
         assert_eq!(summary.timescale, draft.timescale);
         assert_eq!(summary.initial, draft.initial);
+        let clean = draft.changes.iter().all(|change| change.clean);
+        assert_eq!(summary.clean, clean, "seed {seed}");
         most_changes = most_changes.max(draft.changes.len());
 
         let mut names = vec![0xAA; 1_030];
@@ -84,9 +86,12 @@ fn valid_traces_are_read_as_meant() {
                 Ok(change.previous as u32)
             );
             let mut lent = vec![b'?'; 4_100];
-            let (time, value) = judged.change(root, offset, &mut lent).expect("a change");
-            assert_eq!(time, change.time);
-            assert!(shows(&bytes, value, &lent, &change.value), "seed {seed}");
+            let read = judged.change(root, offset, &mut lent).expect("a change");
+            assert_eq!((read.time, read.clean), (change.time, change.clean));
+            assert!(
+                shows(&bytes, read.value, &lent, &change.value),
+                "seed {seed}"
+            );
         }
         values_at_times(&draft, &bytes, &judged);
         if seed % 10 == 0 {
@@ -263,6 +268,115 @@ fn every_answer_occurs() {
     assert!(counts.iter().all(|count| *count >= 50));
 }
 
+/// Rubbish occurs in every packing, in the lowest and the highest unused bit alone and in all, and as a
+/// nibble that is no code; clean and dirty files are both frequent.
+#[test]
+fn rubbish_in_every_packing() {
+    let (mut clean_files, mut dirty_files, mut mixed_files) = (0, 0, 0);
+    let mut clean_changes = [0; 5];
+    // By the bits of a symbol: dirty changes, only the lowest, only the highest, all unused bits.
+    let mut rubbish = [[0; 4]; 5];
+    let mut no_codes = 0;
+    let mut older = 0;
+    for seed in 0..3_000 {
+        let draft = valid(seed);
+        let padded = draft.changes.iter().filter(|it| draft.unused_bits(it) > 0);
+        let (mut clean, mut dirty) = (0, 0);
+        for change in padded {
+            let symbol = draft.bits_a_symbol(change);
+            let unused = draft.unused_bits(change);
+            let all = 0xFF_u8 >> (8 - unused);
+            let found = draft.byte(change.end - 1) & all;
+            assert_eq!(change.clean, found == 0);
+            if change.clean {
+                clean += 1;
+                clean_changes[symbol] += 1;
+                continue;
+            }
+            dirty += 1;
+            rubbish[symbol][0] += 1;
+            rubbish[symbol][1] += u32::from(found == 1 && unused > 1);
+            rubbish[symbol][2] += u32::from(found == 1 << (unused - 1) && unused > 1);
+            rubbish[symbol][3] += u32::from(found == all);
+            no_codes += u32::from(symbol == 4 && found > 8);
+            let newest = draft.word(draft.sync_at(change.root)) as usize;
+            older += u32::from(newest != change.offset);
+        }
+        clean_files += u32::from(dirty == 0 && clean > 0);
+        dirty_files += u32::from(dirty > 0);
+        mixed_files += u32::from(dirty > 0 && clean > 0);
+    }
+    println!(
+        "files: {clean_files} clean, {dirty_files} dirty, {mixed_files} of them in some changes"
+    );
+    println!("clean {clean_changes:?}, rubbish {rubbish:?}");
+    println!("{no_codes} nibbles above 8, {older} in changes that are not the newest");
+    assert!(clean_files >= 400 && dirty_files >= 400 && mixed_files >= 200);
+    for symbol in [1, 2, 4] {
+        assert!(clean_changes[symbol] >= 500, "{symbol}");
+        assert!(
+            rubbish[symbol].iter().all(|count| *count >= 150),
+            "{symbol}"
+        );
+    }
+    assert!(no_codes >= 200 && older >= 1_500);
+}
+
+/// The two sides of clean differ in one byte, and judging says which is which.
+#[test]
+fn clean_and_dirty_neighbours() {
+    let mut made = 0;
+    for seed in 0..400 {
+        let mut random = Random::new(seed + 1);
+        let Some([clean, dirty]) = clean_and_dirty(&valid(seed), &mut random) else {
+            continue;
+        };
+        let (clean, dirty) = (clean.bytes(), dirty.bytes());
+        let differ = clean.iter().zip(&dirty).filter(|(one, other)| one != other);
+        assert_eq!(differ.count(), 1, "seed {seed}");
+        let said = |file| reader::judge(file).map(|it| it.clean);
+        assert_eq!((said(&clean), said(&dirty)), (Ok(true), Ok(false)));
+        made += 1;
+    }
+    assert!(made >= 150, "{made}");
+}
+
+/// Files with rubbish come to 17, and to 16 by a code in use: each damage of theirs starts from dirty
+/// files and from clean ones.
+#[test]
+fn dirty_files_reach_every_refusal_of_changes() {
+    for damage in DAMAGES.iter().filter(|it| it.number >= 15) {
+        let (mut clean, mut dirty) = (0, 0);
+        for seed in 0..600 {
+            let mut random = Random::new(seed + 1);
+            let base = valid(seed);
+            if base.end() > 20_000 {
+                continue;
+            }
+            let Some(neighbours) = (damage.apply)(&base, &mut random) else {
+                continue;
+            };
+            assert_eq!(answer(&neighbours.over.bytes()), Err(damage.number));
+            match reader::judge(&neighbours.near.bytes()).map(|it| it.clean) {
+                Ok(true) => clean += 1,
+                Ok(false) => dirty += 1,
+                Err(_) => {}
+            }
+        }
+        println!(
+            "{} {:45} {clean} clean, {dirty} dirty",
+            damage.number, damage.name
+        );
+        // Near 15, by a command byte at T - 1, nothing is accepted.
+        if damage.name == "command before the change's end" {
+            continue;
+        }
+        assert!(dirty >= 10, "{}: {dirty}", damage.name);
+        let always = damage.name.contains("rubbish");
+        assert_eq!(clean == 0, always, "{}: {clean}", damage.name);
+    }
+}
+
 /// Dense chains come to every answer that chains can have.
 #[test]
 fn dense_chains() {
@@ -311,7 +425,7 @@ fn large_traces_have_their_shape() {
                 judged
                     .change(root, offset, &mut [0; 4_096])
                     .expect("a change")
-                    .0
+                    .time
             };
             assert!(time(times[0]) <= 20 && time(times[changes - 1]) > 15_000);
         }
@@ -325,7 +439,7 @@ fn hostile_files_are_judged() {
         let expected = case.expected.expect("a settled answer");
         assert_eq!(answer(&case.bytes), expected, "{}", case.origin);
     }
-    for (start, count) in [("texts", 6), ("4-bit", 4), ("no data", 4), ("1-bit", 2)] {
+    for (start, count) in [("texts", 6), ("4-bit", 6), ("no data", 4), ("1-bit", 2)] {
         let of_kind: Vec<&Case> = cases
             .iter()
             .filter(|case| case.origin.starts_with(start))

@@ -34,6 +34,7 @@ pub(crate) mod c {
         pub changes: u32,
         pub end: u32,
         pub initial: u32,
+        pub clean: u32,
     }
 
     #[repr(C)]
@@ -107,6 +108,7 @@ pub(crate) mod c {
             room: usize,
             time: *mut u32,
             value: *mut Value,
+            clean: *mut u32,
         ) -> u32;
         pub fn lxt_start_walk(
             file: *const u8,
@@ -129,7 +131,7 @@ pub(crate) mod c {
     }
 }
 
-/// n, C, T and the initial symbol, and the timescale; 0 or the refusal's number.
+/// n, C, T, the initial symbol and 1 where all padding is clean, and the timescale; 0 or the refusal's number.
 pub(crate) fn judge(file: &[u8], summary: &mut c::Summary, timescale: &mut i8) -> u32 {
     // SAFETY: the slice's pointer and length are its own, the struct has the layout of C's, and the two
     // `&mut` are not aliased.
@@ -224,7 +226,8 @@ pub(crate) fn facts(
     }
 }
 
-/// A change's time and its value, its symbols in the lent bits; 0 or the refusal's number.
+/// A change's time and its value, its symbols in the lent bits, and 1 where its padding is clean; 0 or the
+/// refusal's number.
 pub(crate) fn change(
     file: &[u8],
     facility: u32,
@@ -232,9 +235,10 @@ pub(crate) fn change(
     bits: &mut [u8],
     time: &mut u32,
     value: &mut c::Value,
+    clean: &mut u32,
 ) -> u32 {
     // SAFETY: the pointers and lengths of both slices are their own, the struct has the layout of C's,
-    // and the three `&mut` are not aliased.
+    // and the four `&mut` are not aliased.
     unsafe {
         c::lxt_change(
             file.as_ptr(),
@@ -245,6 +249,7 @@ pub(crate) fn change(
             bits.len(),
             time as *mut u32,
             value as *mut c::Value,
+            clean as *mut u32,
         )
     }
 }

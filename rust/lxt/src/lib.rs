@@ -82,6 +82,8 @@ pub struct Summary {
     pub timescale: i8,
     /// The code of the initial symbol, 0 to 8: `0 1 Z X H U W L -`.
     pub initial: u8,
+    /// Whether every change of every root is [clean](Changed::clean); so too where there are no changes.
+    pub clean: bool,
 }
 
 /// The kind of a facility.
@@ -119,6 +121,18 @@ pub enum Value {
     Text { start: u32, length: u32 },
     /// A real or a text that has no change up to the time.
     NotDriven,
+}
+
+/// What reading a change answers, with its value as a [`Value`] or a [`Reading`].
+#[derive(Clone, Copy, Debug, PartialEq, Eq)]
+#[non_exhaustive]
+pub struct Changed<V> {
+    pub time: u32,
+    pub value: V,
+    /// Whether the change's padding is clean: the bits of its last data byte that no symbol uses are all 0.
+    /// Other bits there are accepted and change no value. A real, a text and a change without data or
+    /// without such bits are always clean.
+    pub clean: bool,
 }
 
 impl Value {
@@ -161,6 +175,7 @@ pub fn judge(file: &[u8]) -> Result<Summary, Refusal> {
         end: summary.end,
         timescale,
         initial: summary.initial as u8,
+        clean: summary.clean != 0,
     })
 }
 
@@ -215,7 +230,7 @@ pub fn change_before(file: &[u8], facility: u32, offset: u32) -> Result<u32, Ref
     Ok(before)
 }
 
-/// The time and the value of the change at `offset`.
+/// The time and the value of the change at `offset`, and whether its padding is clean.
 ///
 /// This judges the whole file, as every question does: it is for some changes, not for all of a large
 /// trace. Bits and integers need as many lent bytes as they are wide; other bytes stay.
@@ -224,13 +239,17 @@ pub fn change(
     facility: u32,
     offset: u32,
     bits: &mut [u8],
-) -> Result<(u32, Value), Refusal> {
-    let mut time = 0;
+) -> Result<Changed<Value>, Refusal> {
+    let (mut time, mut clean) = (0, 0);
     let mut value = c::Value::default();
     accepted(ffi::change(
-        file, facility, offset, bits, &mut time, &mut value,
+        file, facility, offset, bits, &mut time, &mut value, &mut clean,
     ))?;
-    Ok((time, Value::of(value)))
+    Ok(Changed {
+        time,
+        value: Value::of(value),
+        clean: clean != 0,
+    })
 }
 
 /// The value of a facility at a time.

@@ -4,7 +4,7 @@ use std::fmt;
 use std::iter::FusedIterator;
 use std::ops::Range;
 
-use crate::{Facts, Pair, Refusal, Summary, Value, NAME_ROOM, WIDEST};
+use crate::{Changed, Facts, Pair, Refusal, Summary, Value, NAME_ROOM, WIDEST};
 
 /// An accepted trace in lent bytes.
 ///
@@ -129,11 +129,15 @@ impl<'a> Trace<'a> {
         Ok((before != 0).then_some(before))
     }
 
-    /// The time and the value of the change at `offset`.
-    pub fn change(&self, facility: u32, offset: u32) -> Result<(u32, Reading<'a>), Refusal> {
+    /// The time and the value of the change at `offset`, and whether its padding is clean.
+    pub fn change(&self, facility: u32, offset: u32) -> Result<Changed<Reading<'a>>, Refusal> {
         let mut bits = [0; WIDEST];
-        let (time, value) = self.change_into(facility, offset, &mut bits)?;
-        Ok((time, self.reading(value, &bits)))
+        let read = self.change_into(facility, offset, &mut bits)?;
+        Ok(Changed {
+            time: read.time,
+            value: self.reading(read.value, &bits),
+            clean: read.clean,
+        })
     }
 
     /// The same with symbols written at the start of the lent bits, of which there are as many as the
@@ -143,7 +147,7 @@ impl<'a> Trace<'a> {
         facility: u32,
         offset: u32,
         bits: &mut [u8],
-    ) -> Result<(u32, Value), Refusal> {
+    ) -> Result<Changed<Value>, Refusal> {
         crate::change(self.bytes, facility, offset, bits)
     }
 
@@ -207,8 +211,8 @@ impl<'a> Trace<'a> {
     ///     let mut asked = vec![false; trace.facilities().len()];
     ///     asked[0] = true;
     ///     for change in trace.walk(&asked)?.take(3) {
-    ///         let (time, value) = trace.change(change.facility, change.offset)?;
-    ///         println!("{} at {time}: {value}", change.facility);
+    ///         let read = trace.change(change.facility, change.offset)?;
+    ///         println!("{} at {}: {}", change.facility, read.time, read.value);
     ///     }
     ///     assert_eq!(trace.walk_all()?.count(), 298);
     ///     Ok(())

@@ -86,9 +86,11 @@ fn refuses_one_byte_more_than_the_limit() {
 
 #[test]
 fn prints_what_the_independent_reader_prints_of_generated_files() {
-    let mut seen = BTreeMap::new();
+    let (mut seen, mut dirty) = (BTreeMap::new(), 0);
     for seed in 0..4_000 {
         let case = lxt_generate::case(seed);
+        let judged = lxt_reference::judge(&case.bytes);
+        dirty += u32::from(judged.is_ok_and(|it| !it.clean));
         compare(
             &case.bytes,
             &format!("seed {seed}, {}", case.origin),
@@ -99,6 +101,8 @@ fn prints_what_the_independent_reader_prints_of_generated_files() {
     for number in (0..=17).filter(|number| *number != 9) {
         assert!(seen.contains_key(&number), "{number}: {seen:?}");
     }
+    // Rubbish in the padding, which is not printed.
+    assert!(dirty >= 200, "{dirty}");
 }
 
 #[test]

@@ -10,6 +10,9 @@ use lxt_compare::judge::TRACE;
 use lxt_compare::traces;
 use lxt_reference::{Judged, Value};
 
+#[allow(dead_code)]
+mod padded;
+
 /// The example of the header: its lines have five spaces, and words for the reader after six or more.
 fn example(header: &str) -> String {
     let from = header.find("The walk:").expect("the walk's comment");
@@ -30,7 +33,7 @@ fn example(header: &str) -> String {
     code
 }
 
-/// Every question on each facility and its newest change, then the header's walk, a line for each answer.
+/// Every question on each facility and its newest changes, then the header's walk, a line for each answer.
 const PROGRAM: &str = r#"
 #include "lxt.h"
 #include <stdio.h>
@@ -91,10 +94,10 @@ int main(int count, char **words) {
         return 0;
     }
     n = summary.facilities;
-    printf("%lu %lu %lu %c %d\n", (unsigned long)n, (unsigned long)summary.changes,
-           (unsigned long)summary.end, LXT_SYMBOLS[summary.initial], timescale);
+    printf("%lu %lu %lu %c %lu %d\n", (unsigned long)n, (unsigned long)summary.changes,
+           (unsigned long)summary.end, LXT_SYMBOLS[summary.initial], (unsigned long)summary.clean, timescale);
     for (f = 0; f <= n && f < 40; f++) {
-        uint32_t root, size, before, time, newest = 0;
+        uint32_t root, size, before, time, clean, offset, count = 0;
         lxt_facility facts;
         lxt_value value;
         int32_t msb, lsb;
@@ -110,11 +113,12 @@ int main(int count, char **words) {
                (long)msb, (long)lsb, (unsigned long)root, (int)size, (const char *)names);
         asked[f] = 1;
         lxt_start_walk(file, length, asked, n, pair, n);
-        newest = pair[root].offset;
-        if (lxt_change_before(file, length, f, newest, &before) == 0) {
-            lxt_change(file, length, f, newest, bits, sizeof bits, &time, &value);
-            printf("%lu %lu ", (unsigned long)before, (unsigned long)time);
+        offset = pair[root].offset;
+        while (count++ < 4 && lxt_change_before(file, length, f, offset, &before) == 0) {
+            lxt_change(file, length, f, offset, bits, sizeof bits, &time, &value, &clean);
+            printf("%lu %lu %lu ", (unsigned long)before, (unsigned long)time, (unsigned long)clean);
             show(&value);
+            offset = before;
         }
         lxt_value_at(file, length, f, 50, bits, sizeof bits, &value);
         show(&value);
@@ -146,7 +150,9 @@ fn expected(file: &[u8]) -> String {
     let (it, mut bits) = (judged.summary(), vec![0; 4_096]);
     let n = it.facilities;
     let initial = char::from(b"01ZXHUWL-"[usize::from(it.initial)]);
-    let mut out = format!("{n} {} {} {initial} {}\n", it.changes, it.end, it.timescale);
+    let clean = u32::from(it.clean);
+    let mut out = format!("{n} {} {} {initial} {clean} ", it.changes, it.end);
+    out += &format!("{}\n", it.timescale);
     for facility in (0..=n).take(40) {
         let Ok(facts) = judged.facts(facility) else {
             out += &format!("{facility} refused\n");
@@ -157,12 +163,12 @@ fn expected(file: &[u8]) -> String {
         let kind = format!("{:?}", facts.kind).to_lowercase();
         let (msb, lsb) = (facts.msb, facts.lsb);
         out += &format!("{} {kind} {msb} {lsb} {root} {name}\n", facts.width);
-        if let Some(newest) = judged.chains()[root as usize].first() {
-            let before = judged.change_before(facility, *newest).expect("a change");
-            let change = judged.change(facility, *newest, &mut bits);
-            let (time, value) = change.expect("a change");
-            out += &format!("{before} {time} ");
-            show(&mut out, value, &bits);
+        for offset in judged.chains()[root as usize].iter().take(4) {
+            let before = judged.change_before(facility, *offset).expect("a change");
+            let read = judged.change(facility, *offset, &mut bits);
+            let read = read.expect("a change");
+            out += &format!("{before} {} {} ", read.time, u32::from(read.clean));
+            show(&mut out, read.value, &bits);
         }
         let value = judged.value_at(facility, 50, &mut bits).expect("a value");
         show(&mut out, value, &bits);
@@ -220,6 +226,18 @@ fn a_c_program_answers_as_the_independent_reader() {
         compared += 1;
     }
     assert!(compared >= 20, "{compared}");
+
+    // Rubbish in the padding of every packing, line by line; the value at 50 is the newest.
+    let path = PathBuf::from(env!("CARGO_TARGET_TMPDIR")).join("padded.lxt");
+    std::fs::write(&path, padded::file()).expect("a place for a trace");
+    let ran = Command::new(&program).arg(path).output().expect("a run");
+    let lines = "3 4 139 X 0 -9\n\
+         3 bits 2 0 0 one\n4 7 1 bits 3 101 0\n0 3 0 bits 3 011 0\nbits 3 101 0\n\
+         3 bits 2 0 1 two\n7 7 1 bits 3 01Z 0\n0 3 0 bits 3 ZX1 0\nbits 3 01Z 0\n\
+         3 bits 2 0 2 four\n10 7 1 bits 3 -LW 0\n0 3 0 bits 3 01Z 0\nbits 3 -LW 0\n\
+         3 refused\n2 20\n1 17\n0 14\n2 10\n1 7\n0 4\nwalked 0\n";
+    assert_eq!(String::from_utf8_lossy(&ran.stdout), lines);
+    assert_eq!(expected(&padded::file()), lines);
 }
 
 /// The structs are the numbers that the functions write, in their order, and the constants the limits.
@@ -233,11 +251,12 @@ const LAYOUT: &str = r#"
 #define FIELD(of, name, at, size) \
     ASSERT(offsetof(of, name) == at); \
     ASSERT(sizeof(((of *)0)->name) == size)
-ASSERT(sizeof(lxt_summary) == 4 * sizeof(uint32_t));
+ASSERT(sizeof(lxt_summary) == 5 * sizeof(uint32_t));
 FIELD(lxt_summary, facilities, 0, 4);
 FIELD(lxt_summary, changes, 4, 4);
 FIELD(lxt_summary, end, 8, 4);
 FIELD(lxt_summary, initial, 12, 4);
+FIELD(lxt_summary, clean, 16, 4);
 ASSERT(sizeof(lxt_facility) == 2 * sizeof(uint32_t));
 FIELD(lxt_facility, width, 0, 4);
 FIELD(lxt_facility, kind, 4, 4);
@@ -294,7 +313,7 @@ static void all(const uint8_t *file, size_t length) {
     lxt_handed handed;
     int8_t timescale;
     int32_t msb, lsb;
-    uint32_t one;
+    uint32_t one, clean;
     lxt_pair pair = {0, 0};
     uint8_t asked = 1;
     printf("%d", (int)lxt_judge(file, length, &summary, &timescale));
@@ -302,7 +321,7 @@ static void all(const uint8_t *file, size_t length) {
     printf(" %d", (int)lxt_root(file, length, 0, &one));
     printf(" %d", (int)lxt_name(file, length, 0, NULL, 0, &one));
     printf(" %d", (int)lxt_change_before(file, length, 0, 6, &one));
-    printf(" %d", (int)lxt_change(file, length, 0, 6, NULL, 0, &one, &value));
+    printf(" %d", (int)lxt_change(file, length, 0, 6, NULL, 0, &one, &value, &clean));
     printf(" %d", (int)lxt_value_at(file, length, 0, 9, NULL, 0, &value));
     printf(" %d", (int)lxt_start_walk(file, length, NULL, 0, NULL, 0));
     printf(" %d", (int)lxt_start_walk(file, length, NULL, 0, &pair, 1));

@@ -1,13 +1,11 @@
 //! The proved judge against the independent reader, answer by answer.
 
-use std::collections::BTreeMap;
-
-use lxt_compare::judge::{compare, TRACE};
+use lxt_compare::judge::{compare, Seen, TRACE};
 use lxt_compare::traces;
 
 #[test]
 fn every_one_byte_change_of_the_small_trace() {
-    let mut seen = BTreeMap::new();
+    let mut seen = Seen::default();
     for at in 0..TRACE.len() {
         for value in 0..=255 {
             let mut file = TRACE;
@@ -16,12 +14,14 @@ fn every_one_byte_change_of_the_small_trace() {
         }
     }
     println!("{seen:?}");
-    assert!(seen.len() > 10, "{seen:?}");
+    assert!(seen.answers.len() > 10, "{seen:?}");
+    // Byte 6 made 30: four delta bytes, and then a data byte of rubbish.
+    assert!(seen.padding.len() == 2, "{seen:?}");
 }
 
 #[test]
 fn every_shortening_and_lengthening_of_the_small_trace() {
-    let mut seen = BTreeMap::new();
+    let mut seen = Seen::default();
     for length in 0..TRACE.len() {
         compare(
             &TRACE[..length],
@@ -45,17 +45,17 @@ fn every_shortening_and_lengthening_of_the_small_trace() {
 
 #[test]
 fn all_traces_of_the_folder() {
-    let mut seen = BTreeMap::new();
+    let mut seen = Seen::default();
     for (name, file) in traces(usize::MAX) {
         compare(&file, &name, &mut seen);
     }
     println!("{seen:?}");
-    assert!(seen[&0] >= 20, "{seen:?}");
+    assert!(seen.answers[&0] >= 20, "{seen:?}");
 }
 
 #[test]
 fn generated_files_reach_every_refusal_of_a_file() {
-    let mut seen = BTreeMap::new();
+    let mut seen = Seen::default();
     for seed in 0..20_000 {
         let case = lxt_generate::case(seed);
         compare(
@@ -68,15 +68,20 @@ fn generated_files_reach_every_refusal_of_a_file() {
     for number in 0..=17 {
         let least = if number == 9 { 1 } else { 50 };
         assert!(
-            seen.get(&number).is_some_and(|count| *count >= least),
+            seen.answers
+                .get(&number)
+                .is_some_and(|count| *count >= least),
             "{number}: {seen:?}"
         );
+    }
+    for clean in [true, false] {
+        assert!(seen.padding[&clean] >= 500, "{seen:?}");
     }
 }
 
 #[test]
 fn hostile_files_are_judged_alike() {
-    let mut seen = BTreeMap::new();
+    let mut seen = Seen::default();
     for case in lxt_generate::hostile() {
         compare(&case.bytes, &case.origin, &mut seen);
     }

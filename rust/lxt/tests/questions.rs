@@ -102,7 +102,7 @@ fn generated_files() {
     for sort in ["bits", "integer", "real", "text"] {
         assert!(seen.count("facts", sort, 0) >= 200, "{sort}");
     }
-    for sort in ["bits", "real", "text"] {
+    for sort in ["bits", "dirty bits", "real", "text"] {
         assert!(seen.count("change", sort, 0) >= 500, "{sort}");
     }
     assert!(seen.count("change", "refused", 19) >= 500);

@@ -1,4 +1,5 @@
-//! Which refusals the compared calls give: every one that a call can give, and no other.
+//! Which refusals the compared calls give: every one that a call can give, and no other; and that padding
+//! is both clean and dirty.
 
 use std::collections::BTreeSet;
 
@@ -29,4 +30,12 @@ fn each_call_gives_every_refusal_that_it_can_and_no_other() {
         }
     }
     assert_eq!(given, BTreeSet::from_iter(1..=22));
+    // And both answers about padding, of judging and of changes.
+    for (call, counts) in compared.padding() {
+        println!("{call:>13} padding {counts:?}");
+        assert!(
+            counts.iter().all(|count| *count >= 200),
+            "{call} {counts:?}"
+        );
+    }
 }

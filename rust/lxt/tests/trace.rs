@@ -64,6 +64,7 @@ fn every_question_of_a_trace() {
         let summary = trace.summary();
         assert_eq!(trace.facilities(), 0..judged.summary().facilities);
         assert_eq!(summary.end, judged.summary().end);
+        assert_eq!(summary.clean, judged.summary().clean, "{what}");
         let mut bits = [0; lxt::WIDEST];
         for facility in trace.facilities().take(12) {
             let facts = judged.facts(facility).expect("facts");
@@ -78,13 +79,17 @@ fn every_question_of_a_trace() {
             for (place, offset) in chain.iter().enumerate().take(6) {
                 let before = trace.change_before(facility, *offset);
                 assert_eq!(before, Ok(chain.get(place + 1).copied()), "{what}");
-                let (time, value) = trace.change(facility, *offset).expect("a change");
+                let read = trace.change(facility, *offset).expect("a change");
                 let expected = judged.change(facility, *offset, &mut bits);
-                let (expected_time, expected) = expected.expect("a change");
-                assert_eq!(time, expected_time, "{what}");
-                assert!(same(&value, &reading(file, expected, &bits)), "{what}");
+                let expected = expected.expect("a change");
+                assert_eq!(read.time, expected.time, "{what}");
+                assert_eq!(read.clean, expected.clean, "{what}");
+                let value = reading(file, expected.value, &bits);
+                assert!(same(&read.value, &value), "{what}");
                 *seen.entry(sort_of(&value)).or_default() += 1;
-                times.extend([time, time.saturating_sub(1)]);
+                let clean = if read.clean { "clean" } else { "dirty" };
+                *seen.entry(clean).or_default() += 1;
+                times.extend([read.time, read.time.saturating_sub(1)]);
             }
             for time in times {
                 let value = trace.value_at(facility, time).expect("a value");
@@ -106,7 +111,7 @@ fn every_question_of_a_trace() {
         }
     });
     println!("{seen:?}");
-    for sort in ["bits", "real", "text", "not driven"] {
+    for sort in ["bits", "real", "text", "not driven", "clean", "dirty"] {
         assert!(seen[sort] >= 200, "{seen:?}");
     }
 }

@@ -15,6 +15,8 @@ pub(crate) struct Change {
     pub end: u32,
     /// The offset of the previous change; 0 ends the chain.
     pub previous: u32,
+    /// Whether every unused bit of the last data byte is 0.
+    pub clean: bool,
 }
 
 /// The rule that a change breaks, in the order of the tests.
@@ -25,7 +27,6 @@ pub enum Fault {
     HighBits,
     Command,
     PassesT,
-    UnusedBits,
     CodeAbove8,
     PreviousBelow0,
     PreviousBelowC,
@@ -33,13 +34,12 @@ pub enum Fault {
 
 impl Fault {
     /// Every rule.
-    pub const ALL: [Fault; 9] = [
+    pub const ALL: [Fault; 8] = [
         Fault::StartBelowC,
         Fault::StartFromT,
         Fault::HighBits,
         Fault::Command,
         Fault::PassesT,
-        Fault::UnusedBits,
         Fault::CodeAbove8,
         Fault::PreviousBelow0,
         Fault::PreviousBelowC,
@@ -48,7 +48,7 @@ impl Fault {
     /// 15 or 16.
     pub fn number(self) -> u8 {
         match self {
-            Fault::HighBits | Fault::Command | Fault::UnusedBits | Fault::CodeAbove8 => 16,
+            Fault::HighBits | Fault::Command | Fault::CodeAbove8 => 16,
             _ => 15,
         }
     }
@@ -155,12 +155,11 @@ impl<'a> ChangeReader<'a> {
             return Err(Fault::PassesT);
         }
 
+        let mut clean = true;
         if matches!(facts.kind, Kind::Bits | Kind::Integer) && symbol > 0 {
-            // Unused bits are 0.
+            // Unused bits may be anything; whether all of them are 0 is an answer.
             let used_in_last = used_bits % 8;
-            if used_in_last != 0 && file[change_end - 1] & (0xFF >> used_in_last) != 0 {
-                return Err(Fault::UnusedBits);
-            }
+            clean = used_in_last == 0 || file[change_end - 1] & (0xFF >> used_in_last) == 0;
             if symbol == 4 {
                 // Codes 0 to 8; of an odd width the last nibble is padding, no code.
                 let whole = facts.width as usize / 2;
@@ -191,6 +190,7 @@ impl<'a> ChangeReader<'a> {
             data: data as u32,
             end: change_end as u32,
             previous: previous as u32,
+            clean,
         })
     }
 }

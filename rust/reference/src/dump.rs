@@ -47,9 +47,9 @@ fn lines(file: &[u8], judged: &Judged) -> Result<Vec<u8>, u8> {
     let list = judged.full_list(&vec![1; n as usize])?;
     let mut bits = vec![0; WIDEST_FACILITY as usize];
     for (root, offset) in &list {
-        let (time, value) = judged.change(*root, *offset, &mut bits)?;
-        out.extend(format!("change {root} {offset} {time} ").into_bytes());
-        match value {
+        let read = judged.change(*root, *offset, &mut bits)?;
+        out.extend(format!("change {root} {offset} {} ", read.time).into_bytes());
+        match read.value {
             Value::Bits { width } => out.extend_from_slice(&bits[..width as usize]),
             Value::Real { bits } => out.extend(format!("{bits:016x}").into_bytes()),
             Value::Text { start, length } => {

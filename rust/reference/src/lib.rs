@@ -1,4 +1,4 @@
-//! A plain reader of LXT traces, written from the rules of paper 01 alone.
+//! A plain reader of LXT traces, written from the rules of paper 01 and Ask 6 of paper 02 alone.
 //!
 //! It exists to be compared, call by call, with another reader. So it follows the paper's order of
 //! checks, uses memory freely and judges the whole file again in every call. A refusal is its
@@ -67,6 +67,17 @@ pub struct Summary {
     pub timescale: i8,
     /// The initial symbol as its code 0 to 8.
     pub initial: u8,
+    /// Whether the padding of every change on the chain of every root is clean (Ask 6).
+    pub clean: bool,
+}
+
+/// What reading a change answers.
+#[derive(Clone, Copy, Debug, PartialEq, Eq)]
+pub struct Changed {
+    pub time: u32,
+    pub value: Value,
+    /// Whether every unused bit of its last data byte is 0; so too where there is none (Ask 6).
+    pub clean: bool,
 }
 
 /// The value of a facility. The symbols of `Bits` stand in the lent bits.

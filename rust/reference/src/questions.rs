@@ -3,7 +3,7 @@
 
 use crate::chains::{bits_a_symbol, read_chains, spans_of, Chains, Change};
 use crate::tables::{read_tables, Trace};
-use crate::{Facts, Kind, Summary, Value, LONGEST_NAME, SYMBOLS};
+use crate::{Changed, Facts, Kind, Summary, Value, LONGEST_NAME, SYMBOLS};
 
 /// A file that passed the checks 1 to 17. Its methods answer as the calls of the same name do,
 /// without judging the file again.
@@ -28,6 +28,7 @@ impl<'a> Judged<'a> {
             end: self.trace.end as u32,
             timescale: self.trace.timescale,
             initial: self.trace.initial,
+            clean: self.chains.iter().flatten().all(|change| change.clean),
         }
     }
 
@@ -84,14 +85,15 @@ impl<'a> Judged<'a> {
         Ok(self.on_chain(facility, offset)?.previous)
     }
 
-    pub fn change(&self, facility: u32, offset: u32, bits: &mut [u8]) -> Result<(u32, Value), u8> {
+    pub fn change(&self, facility: u32, offset: u32, bits: &mut [u8]) -> Result<Changed, u8> {
         let facility = self.facility(facility)?;
         let change = self.on_chain(facility, offset)?;
         self.bits_room(facility, bits)?;
-        Ok((
-            self.trace.time(offset),
-            self.write_value(facility, change, bits),
-        ))
+        Ok(Changed {
+            time: self.trace.time(offset),
+            value: self.write_value(facility, change, bits),
+            clean: change.clean,
+        })
     }
 
     pub fn value_at(&self, facility: u32, time: u32, bits: &mut [u8]) -> Result<Value, u8> {
@@ -184,7 +186,7 @@ impl<'a> Judged<'a> {
     }
 }
 
-/// n, C, T, timescale and initial symbol.
+/// n, C, T, timescale, initial symbol, and whether all padding is clean.
 pub fn judge(file: &[u8]) -> Result<Summary, u8> {
     Ok(Judged::new(file)?.summary())
 }
@@ -209,13 +211,8 @@ pub fn change_before(file: &[u8], facility: u32, offset: u32) -> Result<u32, u8>
     Judged::new(file)?.change_before(facility, offset)
 }
 
-/// A change's time and value.
-pub fn change(
-    file: &[u8],
-    facility: u32,
-    offset: u32,
-    bits: &mut [u8],
-) -> Result<(u32, Value), u8> {
+/// A change's time and value, and whether its padding is clean.
+pub fn change(file: &[u8], facility: u32, offset: u32, bits: &mut [u8]) -> Result<Changed, u8> {
     Judged::new(file)?.change(facility, offset, bits)
 }
 

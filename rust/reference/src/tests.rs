@@ -215,15 +215,24 @@ fn with_item(file: &[u8], tag: u8, value: u32) -> Vec<u8> {
 fn symbols(file: &[u8], facility: u32, offset: u32) -> String {
     let width = facts(file, facility).expect("facts").width as usize;
     let mut bits = vec![b'?'; width + 1];
-    let (_, value) = change(file, facility, offset, &mut bits).expect("a change");
+    let read = change(file, facility, offset, &mut bits).expect("a change");
     assert_eq!(
-        value,
+        read.value,
         Value::Bits {
             width: width as u32
         }
     );
     assert_eq!(bits[width], b'?', "the rest stays");
     String::from_utf8(bits[..width].to_vec()).expect("symbols")
+}
+
+/// A clean change of the time that a `plan` has.
+fn clean_at_10(value: Value) -> Result<Changed, u8> {
+    Ok(Changed {
+        time: 10,
+        value,
+        clean: true,
+    })
 }
 
 fn symbol_at(file: &[u8], time: u32) -> u8 {
@@ -263,7 +272,8 @@ fn p1_the_small_trace_is_accepted() {
             changes: 4,
             end: 68,
             timescale: -9,
-            initial: 3
+            initial: 3,
+            clean: true,
         })
     );
     let mut names = [0xEE; 1_030];
@@ -1043,7 +1053,7 @@ fn the_time_of_a_change() {
     made.positions = vec![6, 3];
     made.times = vec![20, 10];
     let file = made.file();
-    let time = |offset| change(&file, 0, offset, &mut [0]).map(|(time, _)| time);
+    let time = |offset| change(&file, 0, offset, &mut [0]).map(|read| read.time);
     assert_eq!(time(4), Ok(20), "before the first position: entry 0");
     assert_eq!(time(6), Ok(20));
     assert_eq!(time(8), Ok(20));
@@ -1082,21 +1092,15 @@ fn the_byte_order_of_reals() {
     };
     assert_eq!(
         answer(real_test([0, 1, 2, 3, 4, 5, 6, 7])),
-        Ok((
-            10,
-            Value::Real {
-                bits: 0x0807_0605_0403_0201
-            }
-        ))
+        clean_at_10(Value::Real {
+            bits: 0x0807_0605_0403_0201
+        })
     );
     assert_eq!(
         answer(real_test([7, 6, 5, 4, 3, 2, 1, 0])),
-        Ok((
-            10,
-            Value::Real {
-                bits: 0x0102_0304_0506_0708
-            }
-        ))
+        clean_at_10(Value::Real {
+            bits: 0x0102_0304_0506_0708
+        })
     );
     // A 3-cycle, which is not its own inverse: the lowest byte is data byte 1, the next is data
     // byte 2, the third data byte 0.
@@ -1104,12 +1108,9 @@ fn the_byte_order_of_reals() {
     assert_eq!(test, [0x1B, 0x6E, 0x86, 0xF0, 0xF9, 0x21, 0x09, 0x40]);
     assert_eq!(
         answer(test),
-        Ok((
-            10,
-            Value::Real {
-                bits: 0x0807_0605_0401_0302
-            }
-        ))
+        clean_at_10(Value::Real {
+            bits: 0x0807_0605_0401_0302
+        })
     );
     // Read with its own order, the test is 3.14159 again.
     let mut made = plan(&[], &[facility("r", 0, 0, 2, 4)]);
@@ -1168,7 +1169,7 @@ fn all_bits_of_a_real_survive() {
     let file = made.file();
     assert_eq!(
         change(&file, 0, 4, &mut []),
-        Ok((10, Value::Real { bits: nan }))
+        clean_at_10(Value::Real { bits: nan })
     );
     assert_eq!(
         dump(&file),
@@ -1307,27 +1308,12 @@ fn the_whole_change_ends_before_t() {
         assert!(made.judge().is_ok());
     }
     // Whole change (15) before data (16) before previous (15).
-    assert_eq!(one_change_at_end(&[0x00, 0, 0xFF], 8, 0), Err(15));
-    assert_eq!(one_change_at_end(&[0x00, 0, 0xFF, 0xFF], 8, 0), Err(16));
-    assert_eq!(one_change(&[0x00, 0xFF, 0x01], 6, 0), Err(16));
-    assert_eq!(one_change(&[0x00, 0xFF, 0x02], 6, 0), Err(15));
-}
-
-#[test]
-fn unused_bits_are_0() {
-    for width in 1..=9 {
-        for (command, symbol) in [(0, 1), (1, 2), (2, 4)] {
-            let used = width * symbol;
-            let length = (used as usize).div_ceil(8);
-            for bit in 0..8 * length {
-                let mut changes = vec![command, 2];
-                changes.extend(vec![0; length]);
-                changes[2 + bit / 8] |= 0x80 >> (bit % 8);
-                let expected = if bit < used as usize { Ok(()) } else { Err(16) };
-                assert_eq!(one_change(&changes, width - 1, 0), expected);
-            }
-        }
-    }
+    assert_eq!(one_change_at_end(&[0x02, 0, 0x89], 3, 0), Err(15));
+    assert_eq!(one_change_at_end(&[0x02, 0, 0x89, 0x88], 3, 0), Err(16));
+    assert_eq!(one_change(&[0x02, 0xFF, 0x89], 1, 0), Err(16));
+    assert_eq!(one_change(&[0x02, 0xFF, 0x88], 1, 0), Err(15));
+    // Rubbish in the padding is no fault, so the previous offset is looked at.
+    assert_eq!(one_change(&[0x00, 0xFF, 0x01], 6, 0), Err(15));
 }
 
 #[test]
@@ -1340,9 +1326,264 @@ fn codes_are_at_most_8() {
                 changes[2 + place / 2] = code << (4 - 4 * (place % 2));
                 let expected = if code <= 8 { Ok(()) } else { Err(16) };
                 assert_eq!(one_change(&changes, width as i32 - 1, 0), expected);
+                // Rubbish in the unused nibble of an odd width helps nothing.
+                *changes.last_mut().expect("data") |= if width % 2 == 1 { 0x0F } else { 0 };
+                assert_eq!(one_change(&changes, width as i32 - 1, 0), expected);
             }
         }
     }
+}
+
+// ---- Padding (Ask 6) ----
+
+/// The file of the examples 6-A to 6-K: facility "a", one change at 4 with the previous offset 0.
+fn padded(width: u32, command: u8, data: &[u8]) -> Vec<u8> {
+    let mut file = vec![0x01, 0x38, 0x00, 0x04, command, 0x02];
+    file.extend(data);
+    let mut starts = Vec::new();
+    let sections: [(u8, &[u32]); 4] = [
+        (3, &[1, 2, 0x0000_6100]),
+        (4, &[0, width - 1, 0, 0]),
+        (2, &[4]),
+        // m, first, last, the position 4, the time 7
+        (6, &[1, 0, 9, 4, 7]),
+    ];
+    for (tag, words) in sections {
+        starts.push((tag, file.len() as u32));
+        for word in words {
+            file.extend(word.to_be_bytes());
+        }
+    }
+    starts.push((1, 4));
+    starts.sort_unstable();
+    file.push(0);
+    for (tag, start) in starts {
+        file.extend(start.to_be_bytes());
+        file.push(tag);
+    }
+    file.push(0xB4);
+    file
+}
+
+#[test]
+fn examples_6_a_to_6_k() {
+    let first = "01380004000260000000010000000200006100000000000000000200000000000000000000000400000001\
+                 000000000000000900000004000000070000000004010000002302000000070300000013040000002706b4";
+    let first: Vec<u8> = (0..first.len() / 2)
+        .map(|at| u8::from_str_radix(&first[2 * at..2 * at + 2], 16).expect("hexadecimal"))
+        .collect();
+    assert_eq!(padded(3, 0x00, &[0x60]), first);
+
+    // Width, command byte and data; the symbols and whether the padding is clean, or the refusal.
+    type Example = (u32, u8, &'static [u8], Result<(&'static str, bool), u8>);
+    let examples: [Example; 11] = [
+        (3, 0x00, &[0x60], Ok(("011", true))),
+        (3, 0x00, &[0x7F], Ok(("011", false))),
+        (1, 0x00, &[0x01], Ok(("0", false))),
+        (8, 0x00, &[0x01], Ok(("00000001", true))),
+        (3, 0x01, &[0xB4], Ok(("ZX1", true))),
+        (3, 0x01, &[0xB7], Ok(("ZX1", false))),
+        (3, 0x02, &[0x01, 0x20], Ok(("01Z", true))),
+        (3, 0x02, &[0x01, 0x2F], Ok(("01Z", false))),
+        (3, 0x02, &[0x01, 0x9F], Err(16)),
+        (3, 0x07, &[], Ok(("HHH", true))),
+        (3, 0x40, &[0x60], Err(16)),
+    ];
+    for ((width, command, data, expected), letter) in examples.into_iter().zip('A'..) {
+        let file = padded(width, command, data);
+        let mut bits = vec![b'?'; width as usize + 1];
+        let read = change(&file, 0, 4, &mut bits);
+        let (symbols, clean) = match expected {
+            Ok(expected) => expected,
+            Err(number) => {
+                assert_eq!(
+                    (read, judge(&file)),
+                    (Err(number), Err(number)),
+                    "6-{letter}"
+                );
+                assert_eq!(dump(&file), format!("refused {number}\n").into_bytes());
+                // Carrying on refuses the same record by 20.
+                let carried = carry_on(&file, &mut [0], &mut [4], &mut [0; 2], 1);
+                assert_eq!(carried, Err(20), "6-{letter}");
+                continue;
+            }
+        };
+        let value = Value::Bits { width };
+        let (time, end) = (7, 58 + data.len() as u32);
+        assert_eq!(read, Ok(Changed { time, value, clean }), "6-{letter}");
+        assert_eq!(bits, format!("{symbols}?").into_bytes(), "6-{letter}");
+        let summary = Summary {
+            facilities: 1,
+            changes: 4,
+            end,
+            timescale: -9,
+            initial: 3,
+            clean,
+        };
+        assert_eq!(judge(&file), Ok(summary), "6-{letter}");
+
+        // The value at a time, the walk and the program show the symbols and no rubbish.
+        bits.fill(b'?');
+        assert_eq!(value_at(&file, 0, 7, &mut bits), Ok(value), "6-{letter}");
+        assert_eq!(bits, format!("{symbols}?").into_bytes(), "6-{letter}");
+        assert_eq!(walk(&file, &[1], 2), (vec![(0, 4)], true), "6-{letter}");
+        let printed = format!("facility 0 a bits {width}\nchange 0 4 7 {symbols}\ndone 1\n");
+        assert_eq!(dump(&file), printed.into_bytes(), "6-{letter}");
+    }
+}
+
+/// Each bit of the data of each packing by itself: an unused one makes the change dirty and shows in
+/// no symbol.
+#[test]
+fn every_unused_bit_is_looked_at_and_no_other() {
+    for width in 1..=9 {
+        for (command, symbol) in [(0, 1), (1, 2), (2, 4)] {
+            let used = (width * symbol) as usize;
+            let length = used.div_ceil(8);
+            for bit in 0..8 * length {
+                let mut data = vec![0; length];
+                data[bit / 8] |= 0x80 >> (bit % 8);
+                let file = padded(width, command, &data);
+                let clean = bit < used;
+                assert_eq!(judge(&file).map(|it| it.clean), Ok(clean));
+                let mut bits = [b'?'; 9];
+                let read = change(&file, 0, 4, &mut bits).expect("a change");
+                assert_eq!(read.clean, clean);
+                let code = 1 << (symbol as usize - 1 - bit % symbol as usize);
+                let mut expected = vec![b'0'; width as usize];
+                if let Some(shown) = expected.get_mut(bit / symbol as usize) {
+                    *shown = SYMBOLS[code];
+                }
+                assert_eq!(bits[..width as usize], expected);
+            }
+        }
+    }
+    // Every byte as the last one, where the used nibble is a code.
+    for byte in 0..=0xFF {
+        let file = padded(3, 0x02, &[0x01, byte]);
+        let expected = if byte >> 4 > 8 {
+            Err(16)
+        } else {
+            Ok(byte & 0x0F == 0)
+        };
+        assert_eq!(judge(&file).map(|it| it.clean), expected);
+    }
+}
+
+/// 6.2: what has no unused bits is clean whatever its bytes are, and so is a file without changes.
+#[test]
+fn what_has_no_padding_is_clean() {
+    let mut made = plan(
+        &[
+            // a real, a text, an integer, bits of width 8, 4 and 2 in the three packings
+            &[0x0F, 0x02, 0xFF, 0xFF, 0xFF, 0xFF, 0xFF, 0xFF, 0xFF, 0xFF][..],
+            &[0x00, 0x0C, 0xFF, 0x01, 0x00],
+            &[0x00, 0x11, 0xFF, 0xFF, 0xFF, 0xFF],
+            &[0x00, 0x17, 0xFF],
+            &[0x01, 0x1A, 0xFF],
+            &[0x02, 0x1D, 0x88],
+        ]
+        .concat(),
+        &[
+            facility("r", 0, 0, 2, 4),
+            facility("t", 0, 0, 4, 14),
+            facility("i", 0, 0, 1, 19),
+            facility("eight", 7, 0, 0, 25),
+            facility("four", 3, 0, 0, 28),
+            facility("two", 1, 0, 0, 31),
+        ],
+    );
+    made.real_test = Some(crate::tables::REAL_TEST);
+    let file = made.file();
+    assert_eq!(judge(&file).map(|it| it.clean), Ok(true));
+    for (number, chain) in chains(&file).expect("chains").into_iter().enumerate() {
+        let read = change(&file, number as u32, chain[0], &mut [0; 32]);
+        assert_eq!(read.map(|it| it.clean), Ok(true));
+    }
+    assert_eq!(plan(&[], &[]).judge().map(|it| it.clean), Ok(true));
+    let none = plan(&[0x00, 0x02, 0xFF], &[facility("a", 0, 0, 0, 0)]);
+    assert_eq!(none.judge().map(|it| it.clean), Ok(true));
+}
+
+/// Two roots of three bits with two changes each, at 4 and 10 and at 7 and 13; an alias; and rubbish of
+/// the data bytes.
+fn padded_chains(rubbish: [u8; 4]) -> Plan {
+    let mut changes = vec![0x00, 0x02, 0x40, 0x00, 0x05, 0x80];
+    changes.extend([0x00, 0x04, 0xA0, 0x00, 0x04, 0xE0]);
+    for (place, rubbish) in rubbish.into_iter().enumerate() {
+        changes[3 * place + 2] |= rubbish;
+    }
+    plan(
+        &changes,
+        &[
+            facility("a", 2, 0, 0, 10),
+            alias("b", 2),
+            facility("c", 2, 0, 0, 13),
+        ],
+    )
+}
+
+/// 6.6: on the chains of all roots, newest to oldest; each change says it of itself.
+#[test]
+fn clean_is_of_every_change_of_every_root() {
+    for dirty in 0..16_u8 {
+        let rubbish = [0, 1, 2, 3].map(|place| (dirty >> place & 1) << place);
+        let file = padded_chains(rubbish).file();
+        assert_eq!(judge(&file).map(|it| it.clean), Ok(dirty == 0));
+        for (place, symbols_there) in ["010", "100", "101", "111"].into_iter().enumerate() {
+            let (root, offset) = (2 * (place as u32 % 2), 4 + 3 * place as u32);
+            let read = change(&file, root, offset, &mut [0; 3]).expect("a change");
+            assert_eq!(read.clean, rubbish[place] == 0);
+            assert_eq!(symbols(&file, root, offset), symbols_there);
+            if root == 2 {
+                assert_eq!(change(&file, 1, offset, &mut [0; 3]), Ok(read), "the alias");
+            }
+        }
+        // 6.4: walks of any size hand out all four.
+        let all = vec![(2, 13), (0, 10), (2, 7), (0, 4)];
+        assert_eq!(walk(&file, &[1; 3], 4), (all, true));
+        assert_eq!(walk(&file, &[1, 0, 0], 1), (vec![(0, 10)], false));
+    }
+    // Out of reach: chains cut above the dirty change, a sync entry of 0, that of an alias, a gap.
+    let mut cut = padded_chains([0, 0x1F, 0, 0]);
+    assert_eq!(cut.judge().map(|it| it.clean), Ok(false));
+    cut.changes[10] = 11;
+    assert_eq!(cut.judge().map(|it| it.clean), Ok(true));
+    let mut unused = padded_chains([0, 0x1F, 0, 0]);
+    unused.facilities[1].sync = 7;
+    unused.facilities[2].sync = 0;
+    assert_eq!(unused.judge().map(|it| it.clean), Ok(true));
+    let mut gap = padded_chains([0; 4]);
+    gap.changes.extend([0x00, 0x0E, 0xFF]);
+    assert_eq!(gap.judge().map(|it| it.clean), Ok(true));
+}
+
+/// 6.7: files that rubbish refused by 16 before now come to 17, and to the faults of a later change.
+#[test]
+fn rubbish_hides_no_later_refusal() {
+    // Both roots reach the dirty change at 13.
+    let mut met = padded_chains([1, 1, 1, 1]);
+    met.facilities[0].sync = 13;
+    assert_eq!(refused(met.judge()), 17);
+    // The dirty byte of the newest change is the command byte of another root's.
+    let mut shared = padded_chains([1, 0, 0, 0x13]);
+    assert_eq!(shared.judge().map(|it| it.clean), Ok(false));
+    shared.changes[11] = 0x13;
+    shared.changes.extend([0x00, 0x0D]);
+    shared.facilities.push(facility("d", 2, 0, 0, 15));
+    assert_eq!(refused(shared.judge()), 17);
+    // The same change one byte further on shares nothing.
+    shared.changes.truncate(12);
+    shared.changes.extend([0x13, 0x00, 0x0E]);
+    shared.facilities[3].sync = 16;
+    assert_eq!(shared.judge().map(|it| it.clean), Ok(false));
+    // A dirty change of the first root, then a command byte (16) or a start (15) of the other.
+    let mut later = padded_chains([1, 0, 0, 0]);
+    later.changes[9] = 0x0C;
+    assert_eq!(refused(later.judge()), 16);
+    later = padded_chains([1, 0, 0, 0]);
+    later.facilities[2].sync = 3;
+    assert_eq!(refused(later.judge()), 15);
 }
 
 #[test]
@@ -1354,23 +1595,17 @@ fn texts_are_parts_of_the_file() {
     let file = made.file();
     assert_eq!(
         change(&file, 0, 7, &mut []),
-        Ok((
-            10,
-            Value::Text {
-                start: 9,
-                length: 2
-            }
-        ))
+        clean_at_10(Value::Text {
+            start: 9,
+            length: 2
+        })
     );
     assert_eq!(
         change(&file, 0, 4, &mut []),
-        Ok((
-            10,
-            Value::Text {
-                start: 6,
-                length: 0
-            }
-        ))
+        clean_at_10(Value::Text {
+            start: 6,
+            length: 0
+        })
     );
     assert_eq!(value_at(&file, 0, 9, &mut []), Ok(Value::NotDriven));
     assert_eq!(

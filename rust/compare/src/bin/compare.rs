@@ -46,4 +46,14 @@ fn main() {
         let counts = (0..=22).map(|number| answers.get(&(call, number)).unwrap_or(&0).to_string());
         println!("{call:>13}  {}", Vec::from_iter(counts).join(" "));
     }
+    let padding = compared.padding();
+    for (call, [clean, dirty]) in padding {
+        println!("{call:>13}  padding clean {clean}, dirty {dirty}");
+    }
+    // So many files have both; else the run says nothing about padding.
+    let both = padding.iter().all(|(_, counts)| !counts.contains(&0));
+    if compared.files >= 1_000 && !both {
+        eprintln!("clean and dirty padding did not both occur");
+        std::process::exit(1);
+    }
 }

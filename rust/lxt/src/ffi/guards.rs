@@ -123,6 +123,7 @@ struct Lent {
     value: Guarded<Value>,
     handed: Guarded<Handed>,
     one: Guarded<u32>,
+    clean: Guarded<u32>,
     msb: Guarded<i32>,
     lsb: Guarded<i32>,
     scale: Guarded<i8>,
@@ -141,6 +142,7 @@ impl Lent {
             value: Guarded::new(1),
             handed: Guarded::new(1),
             one: Guarded::new(1),
+            clean: Guarded::new(1),
             msb: Guarded::new(1),
             lsb: Guarded::new(1),
             scale: Guarded::new(1),
@@ -155,6 +157,7 @@ const SUMMARY: Summary = Summary {
     changes: MARK,
     end: MARK,
     initial: MARK,
+    clean: MARK,
 };
 
 const FACTS: Facility = Facility {
@@ -201,6 +204,7 @@ fn all_calls(file: &[u8], lent: &mut Lent, place: Place) -> u64 {
             changes: it.changes,
             end: it.end,
             initial: it.initial.into(),
+            clean: it.clean.into(),
         };
         (answer, it.timescale)
     });
@@ -251,14 +255,14 @@ fn all_calls(file: &[u8], lent: &mut Lent, place: Place) -> u64 {
                 let marked = vec![0xA5; room];
                 let one = &mut lent.one.lend(&[MARK], place)[0];
                 let answer = &mut lent.value.lend(&[VALUE], place)[0];
+                let clean = &mut lent.clean.lend(&[MARK], place)[0];
                 let bits = lent.bytes.lend(&marked, place);
-                let number = super::change(file, facility, offset, bits, one, answer);
+                let number = super::change(file, facility, offset, bits, one, answer, clean);
                 let mut room = marked.clone();
                 let expected = judged.and_then(|it| it.change(facility, offset, &mut room));
-                let time = expected.map(|(time, _)| time);
-                let value = expected.map(|(_, value)| numbers(value));
-                assert_eq!((number, *one), after(time, MARK));
-                assert_eq!((number, *answer), after(value, VALUE));
+                let expected = expected.map(|it| (it.time, numbers(it.value), it.clean.into()));
+                let marks = (MARK, VALUE, MARK);
+                assert_eq!((number, (*one, *answer, *clean)), after(expected, marks));
                 assert_eq!(bits, room);
 
                 let answer = &mut lent.value.lend(&[VALUE], place)[0];

@@ -1,3 +1,5 @@
+use std::collections::BTreeMap;
+
 use super::c::{self, Facility, Handed, Summary};
 use super::judge;
 use crate::Pair;
@@ -96,9 +98,9 @@ fn the_declarations_are_those_of_the_header() {
 /// All nine answers about a file with this many bytes, pairs and numbers lent, and what these hold.
 fn all_answers(file: &[u8], bits: &mut [u8], pairs: &mut [Pair], output: &mut [u32]) -> String {
     let mut answers = String::new();
-    let (mut four, mut scale) = (MARKED, 99);
-    let number = judge(file, &mut four, &mut scale);
-    answers += &format!("{number} {four:?} {scale}, ");
+    let (mut five, mut scale) = (MARKED, 99);
+    let number = judge(file, &mut five, &mut scale);
+    answers += &format!("{number} {five:?} {scale}, ");
     let asked = vec![1; pairs.len()];
     for facility in [0, 1, 200] {
         let (mut two, mut msb, mut lsb) = (FACTS, 7, 7);
@@ -111,9 +113,9 @@ fn all_answers(file: &[u8], bits: &mut [u8], pairs: &mut [Pair], output: &mut [u
         answers += &format!("{number} {one} {bits:?}, ");
         let number = super::change_before(file, facility, 6, &mut one);
         answers += &format!("{number} {one}, ");
-        let mut three = VALUE;
-        let number = super::change(file, facility, 6, bits, &mut one, &mut three);
-        answers += &format!("{number} {one} {three:?} {bits:?}, ");
+        let (mut three, mut clean) = (VALUE, 78);
+        let number = super::change(file, facility, 6, bits, &mut one, &mut three, &mut clean);
+        answers += &format!("{number} {one} {three:?} {clean} {bits:?}, ");
         let number = super::value_at(file, facility, 100, bits, &mut three);
         answers += &format!("{number} {three:?} {bits:?}, ");
     }
@@ -189,7 +191,7 @@ fn a_struct_is_its_numbers() {
     assert_eq!((size_of::<Pair>(), align_of::<Pair>()), (8, 4));
     assert_eq!(std::mem::offset_of!(Pair, number), 0);
     assert_eq!(std::mem::offset_of!(Pair, offset), 4);
-    assert_eq!((size_of::<Summary>(), align_of::<Summary>()), (16, 4));
+    assert_eq!((size_of::<Summary>(), align_of::<Summary>()), (20, 4));
     assert_eq!((size_of::<Facility>(), align_of::<Facility>()), (8, 4));
     assert_eq!((size_of::<c::Value>(), align_of::<c::Value>()), (24, 8));
     assert_eq!((size_of::<Handed>(), align_of::<Handed>()), (8, 4));
@@ -332,16 +334,17 @@ fn structs_are_written_whole_and_nothing_around_them() {
     let judged = Judged::new(file).expect("a trace");
     let newest = judged.chains()[0][0];
 
-    let (mut four, mut scale) = (framed(MARKED), framed(99_i8));
-    assert_eq!(judge(file, &mut four.lent, &mut scale.lent), 0);
+    let (mut five, mut scale) = (framed(MARKED), framed(99_i8));
+    assert_eq!(judge(file, &mut five.lent, &mut scale.lent), 0);
     let summary = judged.summary();
     let expected = Summary {
         facilities: 1,
         changes: summary.changes,
         end: summary.end,
         initial: summary.initial.into(),
+        clean: summary.clean.into(),
     };
-    assert_eq!(four.unframed(), expected);
+    assert_eq!(five.unframed(), expected);
     assert_eq!(scale.unframed(), summary.timescale);
 
     let (mut two, mut msb, mut lsb) = (framed(FACTS), framed(77), framed(77));
@@ -364,12 +367,17 @@ fn structs_are_written_whole_and_nothing_around_them() {
     assert_eq!(names.unframed()[..length], *judged.name_of(0));
 
     let mut room = [9; 4_096];
-    let (time, value) = judged.change(0, newest, &mut room).expect("a change");
+    let read = judged.change(0, newest, &mut room).expect("a change");
     let (mut one, mut three, mut bits) = (framed(77), framed(VALUE), framed([9; 4_096]));
-    let (lent, answer) = (&mut bits.lent, &mut three.lent);
-    let number = super::change(file, 0, newest, lent, &mut one.lent, answer);
-    assert_eq!((number, one.unframed()), (0, time));
-    assert_eq!((three.unframed(), bits.unframed()), (numbers(value), room));
+    let mut clean = framed(78);
+    let (lent, answer) = (&mut bits.lent, (&mut three.lent, &mut clean.lent));
+    let number = super::change(file, 0, newest, lent, &mut one.lent, answer.0, answer.1);
+    assert_eq!((number, one.unframed()), (0, read.time));
+    assert_eq!(three.unframed(), numbers(read.value));
+    assert_eq!(
+        (clean.unframed(), bits.unframed()),
+        (read.clean.into(), room)
+    );
     let (mut three, mut bits) = (framed(VALUE), framed([9; 4_096]));
     let number = super::value_at(file, 0, u32::MAX, &mut bits.lent, &mut three.lent);
     let mut room = [9; 4_096];
@@ -393,6 +401,7 @@ const MARKED: Summary = Summary {
     changes: 0xBBBB_BBBB,
     end: 0xCCCC_CCCC,
     initial: 0xDDDD_DDDD,
+    clean: 0xEEEE_EEEE,
 };
 
 const FACTS: Facility = Facility {
@@ -420,6 +429,34 @@ fn a_refused_file_writes_nothing() {
         let (mut answer, mut timescale) = (MARKED, 99);
         assert_ne!(judge(&cut, &mut answer, &mut timescale), 0);
         assert_eq!((answer, timescale), (MARKED, 99));
+    }
+}
+
+/// Judging generated files: all five numbers and the timescale, or the marks.
+#[test]
+fn a_summary_is_written_or_stays() {
+    let mut seen = BTreeMap::new();
+    for seed in 0..6_000 {
+        let file = lxt_generate::case(seed).bytes;
+        let (mut answer, mut timescale) = (MARKED, 99);
+        let number = judge(&file, &mut answer, &mut timescale);
+        let expected = lxt_reference::judge(&file).map(|it| {
+            let summary = Summary {
+                facilities: it.facilities,
+                changes: it.changes,
+                end: it.end,
+                initial: it.initial.into(),
+                clean: it.clean.into(),
+            };
+            (summary, it.timescale)
+        });
+        assert_eq!((number, (answer, timescale)), after(expected, (MARKED, 99)));
+        *seen.entry((number, answer.clean)).or_insert(0) += 1;
+    }
+    println!("{seen:?}");
+    let refused = (1..=17).map(|number| (number, MARKED.clean));
+    for answer in refused.chain([(0, 0), (0, 1)]) {
+        assert!(seen.contains_key(&answer), "{answer:?} {seen:?}");
     }
 }
 
@@ -535,18 +572,31 @@ fn facts_are_written_or_stay() {
 
 #[test]
 fn a_change_is_written_or_stays() {
-    const MARKS: (u32, c::Value) = (0xAAAA_AAAA, VALUE);
+    const MARKS: (u32, c::Value, u32) = (0xAAAA_AAAA, VALUE, 0xDDDD_DDDD);
+    let mut seen = BTreeMap::new();
     questions(|file, judged, facility, offset, room| {
         let judged = judged.as_ref().map_err(|number| *number);
         let mut bits = vec![0xA5; room];
-        let (mut time, mut answer) = MARKS;
-        let number = super::change(file, facility, offset, &mut bits, &mut time, &mut answer);
+        let (mut time, mut answer, mut clean) = MARKS;
+        let lent = (&mut time, &mut answer, &mut clean);
+        let number = super::change(file, facility, offset, &mut bits, lent.0, lent.1, lent.2);
         let mut expected_bits = vec![0xA5; room];
         let expected = judged.and_then(|it| it.change(facility, offset, &mut expected_bits));
-        let expected = expected.map(|(time, value)| (time, numbers(value)));
-        assert_eq!((number, (time, answer)), after(expected, MARKS));
+        let expected = expected.map(|it| (it.time, numbers(it.value), it.clean.into()));
+        assert_eq!((number, (time, answer, clean)), after(expected, MARKS));
         assert_eq!(bits, expected_bits);
+        *seen.entry((number, clean)).or_insert(0) += 1;
     });
+    // Clean and dirty changes, and the mark after each refusal that the call can give; 9 takes a large file.
+    println!("{seen:?}");
+    let refusals = (1..=19).chain([21]).filter(|number| *number != 9);
+    let refusals = refusals.map(|number| (number, MARKS.2));
+    for answer in refusals.chain([(0, 0), (0, 1)]) {
+        assert!(
+            seen.get(&answer).is_some_and(|count| *count >= 50),
+            "{answer:?}"
+        );
+    }
 }
 
 /// The lent pairs as the independent reader takes them: numbers and offsets.

@@ -25,8 +25,9 @@ impl Input {
         let newest = chains.iter().enumerate();
         let newest = newest.filter_map(|(root, chain)| Some((*chain.first()?, root as u32)));
         let mut bits = vec![0; 4_096];
-        let time = |(offset, root)| judged.change(root, offset, &mut bits).expect("a change").0;
-        let latest = newest.max().map_or(0, time);
+        let read = |(offset, root)| judged.change(root, offset, &mut bits);
+        let newest = newest.max().map(read);
+        let latest = newest.map_or(0, |it| it.expect("a change").time);
         Input {
             name: name.into(),
             facilities: chains.len(),
