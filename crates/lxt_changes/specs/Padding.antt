@@ -8,7 +8,7 @@ use Rattle.lxt_format.specs.Changes.{commandOf, dataAt, symbolSize, packedSize}
 use Rattle.lxt_format.specs.declared.Kind.{Kind}
 use Rattle.lxt_changes.specs.Faults.{symbolic}
 
--- the change at o starts in the file, and so do its symbols where it has any
+-- the change at o starts in the file, and its symbols, where it has any, lie in it
 pub record Inside (s : List ℕ) (kind : Kind) (width o : ℕ) : Type 0 where
   pub starts : o < length s
   pub symbols : symbolic kind ≡ true → dataAt s o + packedSize (symbolSize (commandOf s o)) width ≤ length s

@@ -1,4 +1,4 @@
--- Paper 01, "One change and its chain": a change, its fault (15, 16), and chains.
+-- Paper 01, "One change and its chain": a change, its fault (15, 16), and chains. Paper 02, Ask 6: its padding.
 use Prim.Native.Nat.{ℕ, zero, suc, _+_, _*_, _-_, _/_, _%_, _^_}
 use mathlib.Core.Bool.{Bool, true, _&&_, _||_}
 use mathlib.Core.List.{List, [], _∷_, map}

@@ -76,10 +76,11 @@ changesApart s = pairwise (apart (endAt s)) (allChanges s)
 unfoldable pub fileRefusal : List ℕ → ℕ
 fileRefusal s = tablesRefusal s orElse chainsRefusal s orElse 17 unless changesApart s
 
--- whether the padding of that chain was clean, and paper 02, Ask 6: "judging says whether every change reachable from a root was clean"
+-- whether the padding of the chain from the offset o on, read as one of the root f, was clean
 unfoldable pub cleanFrom : List ℕ → ℕ → ℕ → Bool
 cleanFrom s f o = chainClean s (signalOf s f) o
 
+-- paper 02, Ask 6: "judging says whether every change reachable from a root was clean"
 unfoldable pub allClean : List ℕ → Bool
 allClean s = all (λ f. cleanFrom s f (syncOf s f)) (rootsOf s)
 
@@ -94,6 +95,6 @@ summaryOf s =
       clean = allClean s;
     }
 
--- "Judge: n, C, T, timescale and initial symbol, or a refusal."
+-- "Judge: n, C, T, timescale and initial symbol, or a refusal", and with Ask 6 whether all was clean
 unfoldable pub judge : List ℕ → Answer Summary
 judge s = answer (fileRefusal s) (summaryOf s)

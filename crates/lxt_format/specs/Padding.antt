@@ -59,10 +59,10 @@ abbrev accepted : List ℕ → Bool → Answer Bool × (Timed × List ℕ)
 accepted symbols clean = (given clean, (was 7 (length symbols) clean, symbols))
 
 -- the file is refused, and so is the question: it changes nothing lent
-abbrev not : ℕ → ℕ → Answer Bool × (Timed × List ℕ)
-not refusal width = (refused refusal, (record { time = 0; value = refused refusal; clean = false }, replicate width 0xFF))
+abbrev refusedAs : ℕ → ℕ → Answer Bool × (Timed × List ℕ)
+refusedAs refusal width = (refused refusal, (record { time = 0; value = refused refusal; clean = false }, replicate width 0xFF))
 
--- the trace `mixed` with rubbish below the change at 5, which is the older of two
+-- the trace `mixed` with rubbish in the change at 5, the older of the two of facility 0
 olderDirty : List ℕ
 unfolding mixed
 olderDirty = set mixed data5 0xB5
@@ -72,9 +72,9 @@ secondRoot : ℕ → List ℕ
 unfolding mixed spelled
 secondRoot x = set (with32 (with32 mixed (flagsOfMixed 1) 0) (msbOfMixed 1) 2) data8 x
 
--- its changes are handed out to one who asks for facility 0
-abbrev pending : List ℕ → List Pair
-pending s = startRecord s (1 ∷ 0 ∷ 0 ∷ 0 ∷ 0 ∷ 0 ∷ []) (replicate 6 (pair 9 9))
+-- the record of a walk of a file with six facilities that asks for facility 0
+abbrev started : List ℕ → List Pair
+started s = startRecord s (1 ∷ 0 ∷ 0 ∷ 0 ∷ 0 ∷ 0 ∷ []) (replicate 6 (pair 9 9))
 
 -- rows 0xA to 0x14 are the examples 6-A to 6-K
 pub padding : List Row
@@ -88,15 +88,15 @@ padding =
     ∷ row 0xF (said (oneChange 3 0x01 (0xB7 ∷ [])) 3 4) (accepted (spelled 3 0x5A5831) false)
     ∷ row 0x10 (said (oneChange 3 0x02 (0x01 ∷ 0x20 ∷ [])) 3 4) (accepted (spelled 3 0x30315A) true)
     ∷ row 0x11 (said (oneChange 3 0x02 (0x01 ∷ 0x2F ∷ [])) 3 4) (accepted (spelled 3 0x30315A) false)
-    ∷ row 0x12 (said (oneChange 3 0x02 (0x01 ∷ 0x9F ∷ [])) 3 4) (not 16 3)
+    ∷ row 0x12 (said (oneChange 3 0x02 (0x01 ∷ 0x9F ∷ [])) 3 4) (refusedAs 16 3)
     ∷ row 0x13 (said (oneChange 3 0x07 []) 3 4) (accepted (spelled 3 0x484848) true)
-    ∷ row 0x14 (said (oneChange 3 0x40 (0x60 ∷ [])) 3 4) (not 16 3)
+    ∷ row 0x14 (said (oneChange 3 0x40 (0x60 ∷ [])) 3 4) (refusedAs 16 3)
     -- each unused bit counts, and no bit in use
     ∷ row 1 (said (oneChange 9 0x00 (0xFF ∷ 0xC0 ∷ [])) 9 4) (accepted (replicate 9 0x31) false)
     ∷ row 1 (said (oneChange 9 0x00 (0xFF ∷ 0x80 ∷ [])) 9 4) (accepted (replicate 9 0x31) true)
     ∷ row 1 (said (oneChange 4 0x02 (0x88 ∷ 0x88 ∷ [])) 4 4) (accepted (replicate 4 0x2D) true)
-    ∷ row 1 (said (oneChange 4 0x02 (0x88 ∷ 0x89 ∷ [])) 4 4) (not 16 4)
-    ∷ row 1 (said (oneChange 3 0x02 (0x9F ∷ 0x2F ∷ [])) 3 4) (not 16 3)
+    ∷ row 1 (said (oneChange 4 0x02 (0x88 ∷ 0x89 ∷ [])) 4 4) (refusedAs 16 4)
+    ∷ row 1 (said (oneChange 3 0x02 (0x9F ∷ 0x2F ∷ [])) 3 4) (refusedAs 16 3)
     -- a code above 8 and a previous offset below C, in one change
     ∷ row 1 (fileRefusal (set (oneChange 3 0x02 (0x01 ∷ 0x9F ∷ [])) 5 1)) 16
     ∷ row 1 (fileRefusal (set (oneChange 3 0x02 (0x01 ∷ 0x2F ∷ [])) 5 1)) 15
@@ -110,8 +110,8 @@ padding =
     ∷ row 2 (said (with32 olderDirty (syncOfMixed 0) 0) 3 29) (given true, (record { time = 0; value = refused 19; clean = false }, replicate 3 0xFF))
     -- the value at a time and the walk, over rubbish
     ∷ row 3 (valueBuffer (set olderDirty data29 0x8F) 4 10 (replicate 3 0xFF)) (spelled 3 0x48552D)
-    ∷ row 3 (carryAsked olderDirty (pending olderDirty) 9 18) (given (2, true))
-    ∷ row 3 (carryOutput olderDirty (pending olderDirty) 9 (replicate 18 0xFF)) (0 ∷ 29 ∷ 0 ∷ 5 ∷ replicate 14 0xFF)
+    ∷ row 3 (carryAsked olderDirty (started olderDirty) 9 18) (given (2, true))
+    ∷ row 3 (carryOutput olderDirty (started olderDirty) 9 (replicate 18 0xFF)) (0 ∷ 29 ∷ 0 ∷ 5 ∷ replicate 14 0xFF)
     -- later checks are reached: two roots share the change at 5, with rubbish
     ∷ row 4 (fileRefusal (set (with32 (secondRoot 0x20) (syncOfMixed 1) 5) data5 0xB5)) 17
     ∷ []
