@@ -104,12 +104,12 @@ module _ (s : List ℕ) (width o : ℕ) (fits : o + packedSize 4 width ≤ lengt
       ∙ rw (good-halves, slice-cons (o + width / 2) (o + packedSize 4 width) s 0 (omega arith) fits) (ap (λ b. all (λ i. goodByte (byteAt s i)) (range o (width / 2)) && b) (one-code _ _))
 
 -- where there is no data there is no code
-codes-none : (s : List ℕ) (width o : ℕ) → codesAllowed s 0 width o ≡ true
+pub codes-none : (s : List ℕ) (width o : ℕ) → codesAllowed s 0 width o ≡ true
 unfolding codesAllowed codesAt unpack packedSize all joined
 codes-none s width o = let e : o + (0 * width + 7) / 8 ≡ o = omega arith in rw (e, slice-empty o s) (ap (all (λ code. leb code 8)) (take-nil width))
 
 -- the codes of 1 and of 2 bits are always allowed
-codes-small : (s : List ℕ) (b width o : ℕ) → 0 < 2 ^ b → 2 ^ b ≤ 8 → codesAllowed s b width o ≡ true
+pub codes-small : (s : List ℕ) (b width o : ℕ) → 0 < 2 ^ b → 2 ^ b ≤ 8 → codesAllowed s b width o ≡ true
 unfolding codesAllowed codesAt unpack
 codes-small s b width o p h = all-take (λ code. leb code 8) width _ (small-codes b (8 / b) (slice o (o + packedSize b width) s) p h)
 

@@ -72,7 +72,7 @@ module _ (s : List ℕ) (C T : ℕ) (kind : Kind) (o : ℕ) where
 
 -- ---- a change of symbols
 
-symbol-cases : (c : ℕ) → ((symbolSize c ≡ 0) ⊎ (symbolSize c ≡ 1)) ⊎ ((symbolSize c ≡ 2) ⊎ (symbolSize c ≡ 4))
+pub symbol-cases : (c : ℕ) → ((symbolSize c ≡ 0) ⊎ (symbolSize c ≡ 1)) ⊎ ((symbolSize c ≡ 2) ⊎ (symbolSize c ≡ 4))
 unfolding symbolSize
 symbol-cases c =
     elim (ℕ-discrete c 0) [

@@ -4,3 +4,4 @@ pub mod CodeLaws
 pub mod PaddingLaws
 pub mod FaultLaws
 pub mod EndLaws
+pub mod Narrower
