@@ -15,9 +15,9 @@ use Rattle.lxt_format.specs.declared.Kind.the-variants.{Bits, Integer, Real, Te
 use Rattle.lxt_changes.specs.Faults.{symbolic}
 use Rattle.lxt_changes.specs.Padding.{Inside}
 
--- the power of 2 for each number of bits
-pub power : (k j : ℕ) → k ≡ j → 0 < 2 ^ j → (2 ^ j ≡ 2 ^ k) × (0 < 2 ^ j)
-power k j e p = (rw e, p)
+-- the lowest bits, by their number
+pub low-bits : (x k j : ℕ) → k ≡ j → eqb (x % 2 ^ j) 0 ≡ eqb (x % 2 ^ k) 0
+low-bits x k j e = rw e
 
 above : (k j : ℕ) → j ≤ k → (k ≡ j → ⊥) → suc j ≤ k
 above k j h n = omega arith
@@ -34,10 +34,10 @@ pub unused-lt : (b width size : ℕ) → size ≡ packedSize b width → (b * wi
 unfolding packedSize
 unused-lt b width size e = (omega arith, omega arith)
 
-pub padding-is : (s : List ℕ) (b width o size power last : ℕ) → size ≡ packedSize b width → power ≡ 2 ^ (8 * size - b * width) → last ≡ byteAt s (o + size - 1)
-    → eqb (last % power) 0 ≡ paddingClean s b width o
+pub padding-is : (s : List ℕ) (b width o size : ℕ) → size ≡ packedSize b width → (z : Bool) → z ≡ eqb (byteAt s (o + size - 1) % 2 ^ (8 * size - b * width)) 0
+    → z ≡ paddingClean s b width o
 unfolding paddingClean unusedBits
-padding-is s b width o size power last es ep el = rw (el, ep, es)
+padding-is s b width o size es z ez = ez ∙ rw es
 
 -- ---- the ways through `is_clean`
 

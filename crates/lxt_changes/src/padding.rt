@@ -1,6 +1,7 @@
 // Padding: the bits of a change's last data byte that no symbol uses.
 ghost use mathlib.Core.Path.{_≡_};
-ghost use Prim.Native.Nat.{_+_, _*_, _-_, _≤_, _<_, _^_};
+ghost use Prim.Native.Nat.{_+_, _*_, _-_, _≤_, _<_, _%_, _^_};
+ghost use lib.Dec.{eqb};
 ghost use lib.ListN.{length};
 ghost use Rattle.lxt_format.specs.Limits.{widestFacility};
 ghost use Rattle.lxt_format.specs.Changes.{signal, packedSize, paddingClean, cleanAt};
@@ -8,21 +9,21 @@ ghost use Rattle.lxt_changes.specs.Padding.{Inside};
 use crate::delta;
 use crate::symbols;
 use lxt_format::Kind;
-use lxt_sections::wide;
 
-fn power_of_2(k: usize) -> u32
+// The lowest `k` bits of a byte are 0. Each divisor is a literal, so that nothing is divided.
+fn low_bits_are_0(byte: u8, k: usize) -> bool
     requires { ⌜ k < 8 ⌝ }
-    ensures { λ r. ⌜ (r ≡ 2 ^ k) × (0 < r) ⌝ }
+    ensures { λ r. ⌜ r ≡ eqb (byte % 2 ^ k) 0 ⌝ }
 {
     match k {
-        0 => 1,
-        1 => 2,
-        2 => 4,
-        3 => 8,
-        4 => 16,
-        5 => 32,
-        6 => 64,
-        _ => 128,
+        0 => byte % 1 == 0,
+        1 => byte % 2 == 0,
+        2 => byte % 4 == 0,
+        3 => byte % 8 == 0,
+        4 => byte % 16 == 0,
+        5 => byte % 32 == 0,
+        6 => byte % 64 == 0,
+        _ => byte % 128 == 0,
     }
 }
 
@@ -33,8 +34,9 @@ pub fn padding_clean(file: &[u8], b: u32, width: u32, at: usize) -> bool
     ensures { λ r. ⌜ r ≡ paddingClean (now (file .entry)) b width at ⌝ }
 {
     let size = symbols::packed_size(b, width);
-    let unused = power_of_2(8 * size - (b as usize) * (width as usize));
-    wide(file[at + size - 1]) % unused == 0
+    let unused = 8 * size - (b as usize) * (width as usize);
+    let last = file[at + size - 1];
+    low_bits_are_0(last, unused)
 }
 
 // The padding of the change at `o` is 0. C and T do not matter: 0 stands for them.

@@ -8,32 +8,26 @@ use Rattle.lxt_changes.proofs.padding.padding_clean.Tie as tie
 packed-size-requires : tie.Need-packed-size-requires
 packed-size-requires c κs = search needs
 
-mul-power-of-2 : tie.Need-mul-power-of-2
-mul-power-of-2 c = search needs
+mul-unused : tie.Need-mul-unused
+mul-unused c = search needs
 
-mul-power-of-2-2 : tie.Need-mul-power-of-2-2
-mul-power-of-2-2 c = omega (arith, product _ _ (c .before .before .pre .0 .0) (c .before .before .pre .0 .1))
+mul-unused-2 : tie.Need-mul-unused-2
+mul-unused-2 c = omega (arith, product _ _ (c .before .before .pre .0 .0) (c .before .before .pre .0 .1))
 
-sub-power-of-2 : tie.Need-sub-power-of-2
-sub-power-of-2 c = unused-lt _ _ _ (c .packed-size .ensures .0) .0
+sub-unused : tie.Need-sub-unused
+sub-unused c = unused-lt _ _ _ (c .packed-size .ensures .0) .0
 
-power-of-2-requires : tie.Need-power-of-2-requires
-power-of-2-requires c κs = unused-lt _ _ _ (c .packed-size .ensures .0) .1
+add-last : tie.Need-add-last
+add-last c = search needs
 
-add-wide : tie.Need-add-wide
-add-wide c = search needs
+sub-last : tie.Need-sub-last
+sub-last c = search needs
 
-sub-wide : tie.Need-sub-wide
-sub-wide c = search needs
+shared-slice-read-last : tie.Need-shared-slice-read-last
+shared-slice-read-last c = search needs
 
-shared-slice-read-wide : tie.Need-shared-slice-read-wide
-shared-slice-read-wide c = search needs
-
-wide-requires : tie.Need-wide-requires
-wide-requires c κs = search needs
-
-rem-result : tie.Need-rem-result
-rem-result c = search needs
+low-bits-are-0-requires : tie.Need-low-bits-are-0-requires
+low-bits-are-0-requires c κs = unused-lt _ _ _ (c .before .packed-size .ensures .0) .1
 
 returns : tie.Need-returns
 returns c = search padding-is
@@ -43,13 +37,11 @@ padding-clean-spec =
     tie.close
     (tie.spec
     packed-size-requires
-    mul-power-of-2
-    mul-power-of-2-2
-    sub-power-of-2
-    power-of-2-requires
-    add-wide
-    sub-wide
-    shared-slice-read-wide
-    wide-requires
-    rem-result
+    mul-unused
+    mul-unused-2
+    sub-unused
+    add-last
+    sub-last
+    shared-slice-read-last
+    low-bits-are-0-requires
     returns)
