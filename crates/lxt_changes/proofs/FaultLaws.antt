@@ -21,6 +21,8 @@ use Rattle.lxt_format.specs.declared.Kind.{Kind}
 use Rattle.lxt_format.specs.declared.Kind.the-variants.{Bits, Integer, Real, Text}
 use Rattle.lxt_changes.specs.Windows.{Known, Answered, Data}
 use Rattle.lxt_changes.specs.Faults.{LastZero, startFault, bodyFault, symbolFault, symbolClean, Found, Tells, symbolic, Setting}
+use Rattle.lxt_changes.proofs.CodeLaws.{codes-none}
+use Rattle.lxt_changes.proofs.PaddingLaws.{padding-none}
 use Rattle.lxt_changes.specs.declared.symbols.Window.{Window}
 use Rattle.lxt_changes.specs.declared.symbols.Checked.{Checked}
 use Rattle.lxt_changes.specs.declared.fault.Faulted.{Faulted}
@@ -105,13 +107,25 @@ module _ (s : List ℕ) (T width o : ℕ) (b size at : ℕ) (eb : b ≡ symbolSi
     pub data-there : 1 ≤ width → width ≤ widestFacility → T ≤ length s → Data s b width at
     data-there least most fits = record { symbols = rw eb (symbol-cases (byteAt s o % 16)); least = least; most = most; inside = rw (← es) (omega arith) }
 
+    fits : leb (dataAt s o + packedSize (symbolSize (commandOf s o)) width) T ≡ true
+    fits = rw end-is (le-leb _ _ h)
+
+    -- there is no data
+    pub symbols-none : b ≡ 0 → (w : Window) → Known s w → Found s (symbolFault s T width o) (symbolClean s width o) (record { fault = 0; clean = true; window = w })
+    unfolding symbolFault symbolClean commandOf
+    symbols-none z w k =
+        let e : symbolSize (byteAt s o % 16) ≡ 0 = sym eb ∙ z in
+        let c : codesAllowed s (symbolSize (byteAt s o % 16)) width (dataAt s o) ≡ true = rw e (codes-none s width (dataAt s o)) in
+        record {
+          number = simp (fits, c);
+          clean = λ q. rw e (sym (padding-none s width (dataAt s o)));
+          known = k;
+        }
+
     module _ (c : Checked) (a : Answered s (codesAllowed s b width at) c) where
       allowed-is : c .allowed ≡ codesAllowed s (symbolSize (commandOf s o)) width (dataAt s o)
       unfolding commandOf
       allowed-is = a .answer ∙ rw (eb, ea)
-
-      fits : leb (dataAt s o + packedSize (symbolSize (commandOf s o)) width) T ≡ true
-      fits = rw end-is (le-leb _ _ h)
 
       pub symbols-wrong : c .allowed ≡ false → Found s (symbolFault s T width o) (symbolClean s width o) (record { fault = 16; clean = false; window = c .window })
       unfolding symbolFault

@@ -1,5 +1,5 @@
 -- Laws of padding.
-use Prim.Native.Nat.{ℕ, suc, _+_, _*_, _-_, _≤_, _<_, _%_, _^_, zero-le}
+use Prim.Native.Nat.{ℕ, suc, _+_, _*_, _-_, _≤_, _<_, _/_, _%_, _^_, zero-le}
 use mathlib.Core.Path.{_≡_, refl, sym, _∙_}
 use mathlib.Core.Logic.{_⊎_, inl, inr}
 use mathlib.Core.Bool.{Bool, true, false≢true}
@@ -7,6 +7,7 @@ use mathlib.Core.List.{List}
 use lib.ListN.{length}
 use lib.Dec.{eqb}
 use native.Mathlib.Omega.{arith}
+use native.Mathlib.Nat.{mod-one}
 use Rattle.lxt_format.specs.Bytes.{byteAt}
 use Rattle.lxt_format.specs.Changes.{signal, commandOf, dataAt, symbolSize, packedSize, unusedBits, paddingClean, cleanAt, dataSize, changeEnd}
 use Rattle.lxt_format.specs.ChangesLaws.{Sound}
@@ -38,6 +39,13 @@ pub padding-is : (s : List ℕ) (b width o size : ℕ) → size ≡ packedSize b
     → z ≡ paddingClean s b width o
 unfolding paddingClean unusedBits
 padding-is s b width o size es z ez = ez ∙ rw es
+
+-- where there is no data there is no padding
+pub padding-none : (s : List ℕ) (width o : ℕ) → paddingClean s 0 width o ≡ true
+unfolding paddingClean unusedBits packedSize
+padding-none s width o =
+    let e : 8 * ((0 * width + 7) / 8) - 0 * width ≡ 0 = omega arith in
+    rw (e, mod-one (byteAt s (o + (0 * width + 7) / 8 - 1)))
 
 -- ---- the ways through `is_clean`
 

@@ -74,6 +74,13 @@ fn symbol_fault(file: &[u8], end: usize, width: u32, o: usize, w: Window) -> Fau
             window: w,
         };
     }
+    if b == 0 {
+        return Faulted {
+            fault: 0,
+            clean: true,
+            window: w,
+        };
+    }
     let checked = symbols::codes_allowed(file, b, width, at, w);
     let seen = checked.window;
     if !checked.allowed {
