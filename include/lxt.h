@@ -13,7 +13,7 @@
  * - A pointer is to as many objects as its length or room says, or to one object of its type. With a length
  *   or room of 0 it may be null. No other pointer may be null.
  * - No two of them overlap. What is lent, the bytes of the file above all, does not change during the call.
- * - 128 KiB of stack are enough for each call; the most that was measured is 66,264 bytes.
+ * - 128 KiB of stack are enough for each call; the most that was measured is 66,280 bytes.
  *
  * The functions keep nothing between calls: there is nothing to set up or to free, and calls can be made
  * from any thread. The archive needs memcpy and memset of the C library and nothing else.
