@@ -30,7 +30,7 @@ eighth k h l = omega arith
 pub seven : (k : ℕ) → k < 8 → (k ≡ 0 → ⊥) → (k ≡ 1 → ⊥) → (k ≡ 2 → ⊥) → (k ≡ 3 → ⊥) → (k ≡ 4 → ⊥) → (k ≡ 5 → ⊥) → (k ≡ 6 → ⊥) → k ≡ 7
 seven k l a b c d e f g = eighth k (above k 6 (above k 5 (above k 4 (above k 3 (above k 2 (above k 1 (above k 0 zero-le a) b) c) d) e) f) g) l
 
--- the unused bits of the last byte are fewer than 8, and there is such a byte
+-- the unused bits of the last byte are fewer than 8
 pub unused-lt : (b width size : ℕ) → size ≡ packedSize b width → (b * width ≤ 8 * size) × (8 * size - b * width < 8)
 unfolding packedSize
 unused-lt b width size e = (omega arith, omega arith)
