@@ -10,6 +10,7 @@ pub mod NamesLaws
 pub mod Geometry
 pub mod GeometryLaws
 pub mod Times
+pub mod TimesLaws
 pub mod Reals
 pub mod Changes
 pub mod ChangesLaws
@@ -17,6 +18,8 @@ pub mod UnpackLaws
 pub mod Values
 pub mod Judge
 pub mod JudgeLaws
+pub mod RisingTimes
+pub mod RisingTimesLaws
 pub mod Walk
 pub mod WalkLaws
 pub mod Answers
@@ -27,3 +30,4 @@ pub mod Traces
 pub mod Examples
 pub mod Neighbours
 pub mod Padding
+pub mod ZeroDeltas

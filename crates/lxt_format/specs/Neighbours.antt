@@ -164,10 +164,10 @@ neighbours =
     ∷ row 13 (fileRefusal (with32 quiet entriesOfMixed 0)) 0
     ∷ row 13 (fileRefusal (with32 trace positionDelta0 3)) 13
     ∷ row 13 (fileRefusal (with32 trace positionDelta0 5)) 0
-    ∷ row 13 (fileRefusal (with32 trace positionDelta1 0)) 13
+    ∷ row 13 (fileRefusal (with32 trace positionDelta1 0)) 0
     ∷ row 13 (fileRefusal (with32 trace positionDelta1 64)) 13
     ∷ row 13 (fileRefusal (with32 trace positionDelta1 63)) 0
-    ∷ row 13 (fileRefusal (with32 trace timeDelta1 0)) 13
+    ∷ row 13 (fileRefusal (with32 trace timeDelta1 0)) 0
     ∷ row 13 (fileRefusal (with32 trace lastOfTimes 4)) 13
     ∷ row 13 (fileRefusal (with32 trace firstOfTimes 1)) 13
     ∷ row 13 (fileRefusal (with32 (with32 trace timeDelta0 1) lastOfTimes 6)) 0

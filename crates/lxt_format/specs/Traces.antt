@@ -99,7 +99,10 @@ timeDelta0 = 60
 abbrev pub timeDelta1 : ℕ
 timeDelta1 = 64
 
--- the values of its section list, and its last byte
+-- its END, the values of its section list, and its last byte
+abbrev pub endOfTrace : ℕ
+endOfTrace = 68
+
 abbrev pub changesValue : ℕ
 changesValue = 69
 

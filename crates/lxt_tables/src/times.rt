@@ -3,7 +3,7 @@ ghost use mathlib.Core.Path.{_≡_};
 ghost use mathlib.Core.Bool.{not, _&&_};
 ghost use Prim.Native.Nat.{_+_, _*_, _≤_, _<_};
 ghost use lib.Dec.{leb, eqb};
-ghost use lib.ListN.{length, drop};
+ghost use lib.ListN.{length};
 ghost use Rattle.lxt_format.specs.Basics.{all, any};
 ghost use Rattle.lxt_format.specs.Bytes.{u32sAt};
 ghost use Rattle.lxt_format.specs.Geometry.{rootsOf, syncOf};
@@ -17,25 +17,23 @@ use lxt_sections::be32;
 use lxt_sections::times::positions_at;
 use lxt_sections::times::steps_at;
 
-// The `m` deltas from `at` on: each after the first is at least 1, and each of their running sums is
-// from `low` to `high`. The first sum above `high` ends the loop, so that none wraps.
+// Each running sum of the `m` deltas from `at` on is from `low` to `high`. The first sum above `high`
+// ends the loop, so that none wraps.
 fn sums_allowed(file: &[u8], at: usize, m: u32, low: u64, high: u64) -> bool
     requires { ⌜ (at + 4 * m ≤ length (now file)) × (high < 9223372036854775808) ⌝ }
-    ensures { λ r. ⌜ r ≡ (all (leb 1) (drop 1 (u32sAt m (now (file .entry)) at)) && all (λ t. leb low t && leb t high) (sumsFrom 0 (u32sAt m (now (file .entry)) at))) ⌝ }
+    ensures { λ r. ⌜ r ≡ all (λ t. leb low t && leb t high) (sumsFrom 0 (u32sAt m (now (file .entry)) at)) ⌝ }
 {
     let mut p = at;
     let mut left = m;
-    let mut least: u32 = 0;
     let mut sum: u64 = 0;
     while 0 < left {
         let delta = be32(file, p);
         let next = sum + delta as u64;
-        let allowed = (least <= delta) & ((low <= next) & (next <= high));
+        let allowed = (low <= next) & (next <= high);
         if !allowed {
             return false;
         }
         sum = next;
-        least = 1;
         p += 4;
         left -= 1;
     }

@@ -1,70 +1,21 @@
 -- Going down the entries of the time table.
-use Prim.Native.Nat.{ℕ, zero, suc, _+_, _-_, _*_, _≤_, _<_}
-use mathlib.Core.Path.{_≡_, refl, sym, _∙_, ap}
-use mathlib.Core.List.{List, [], _∷_}
-use lib.ListN.{length, getD}
-use lib.Dec.{leb}
+use Prim.Native.Nat.{ℕ, suc, _+_, _-_, _*_, _≤_, _<_}
+use mathlib.Core.Path.{_≡_, sym, _∙_}
+use mathlib.Core.List.{List}
+use lib.ListN.{getD}
 use native.Mathlib.Omega.{arith}
 use native.Mathlib.Decide.{decLe}
-use borrow.Author.Tests.{le-leb, lt-leb}
-use Rattle.lxt_format.specs.BasicsLaws.{on-test}
 use Rattle.lxt_format.specs.Bytes.{u32At}
-use Rattle.lxt_format.specs.BytesLaws.{length-u32s, getD-u32s}
+use Rattle.lxt_format.specs.BytesLaws.{getD-u32s}
 use Rattle.lxt_format.specs.Sections.{sectionOf, timeCount}
-use Rattle.lxt_format.specs.Times.{positionDeltas, timeDeltas, sumsFrom, positionsOf, timesOf, timeFrom, timeOf}
+use Rattle.lxt_format.specs.Times.{positionDeltas, timeDeltas, positionsOf, timesOf, timeOf}
+use Rattle.lxt_format.specs.TimesLaws.{sum-first, sum-next, length-position-deltas, length-time-deltas, last-decides, entry-0-decides}
 use Rattle.lxt_values.specs.Times.{Times}
 use Rattle.lxt_values.specs.Entries.{EntryAt, Latest}
 
--- ---- running sums
-
-length-sums : (a : ℕ) (ds : List ℕ) → length (sumsFrom a ds) ≡ length ds
-unfolding sumsFrom
-length-sums a [] = refl
-length-sums a (d ∷ ds) = ap suc (length-sums (a + d) ds)
-
--- the first sum, and the one after another
-sum-first : (a : ℕ) (ds : List ℕ) → 0 < length ds → getD (sumsFrom a ds) 0 0 ≡ a + getD ds 0 0
-unfolding sumsFrom
-sum-first a [] h = absurd (omega arith)
-sum-first a (d ∷ ds) h = refl
-
-sum-next : (a : ℕ) (ds : List ℕ) (i : ℕ) → suc i < length ds → getD (sumsFrom a ds) (suc i) 0 ≡ getD (sumsFrom a ds) i 0 + getD ds (suc i) 0
-unfolding sumsFrom
-sum-next a [] i h = absurd (omega arith)
-sum-next a (d ∷ ds) zero h = sum-first (a + d) ds (omega arith)
-sum-next a (d ∷ ds) (suc i) h = sum-next (a + d) ds i (omega arith)
-
--- ---- the time of an offset
-
--- entries that lie above it do not count
-none-count : (x : ℕ) (ps ts : List ℕ) (o : ℕ) → ((j : ℕ) → j < length ps → o < getD ps j 0) → timeFrom x ps ts o ≡ x
-unfolding timeFrom
-none-count x [] ts o h = refl
-none-count x (p ∷ ps) [] o h = refl
-none-count x (p ∷ ps) (t ∷ ts) o h =
-    let ih : timeFrom x ps ts o ≡ x = none-count x ps ts o (λ j b. h (suc j) (omega arith)) in
-    rw (lt-leb p o (h 0 (omega arith))) ih
-
--- the last that does not gives the time
-last-counts : (x : ℕ) (ps ts : List ℕ) (i o : ℕ) → i < length ps → i < length ts → getD ps i 0 ≤ o
-    → ((j : ℕ) → i < j → j < length ps → o < getD ps j 0) → timeFrom x ps ts o ≡ getD ts i 0
-unfolding timeFrom
-last-counts x [] ts i o a b l h = absurd (omega arith)
-last-counts x (p ∷ ps) [] i o a b l h = absurd (omega arith)
-last-counts x (p ∷ ps) (t ∷ ts) zero o a b l h = rw (le-leb p o l) (none-count t ps ts o (λ j c. h (suc j) (omega arith) (omega arith)))
-last-counts x (p ∷ ps) (t ∷ ts) (suc i) o a b l h =
-    let ih : (y : ℕ) → timeFrom y ps ts o ≡ getD ts i 0 = λ y. last-counts y ps ts i o (omega arith) (omega arith) l (λ j c d. h (suc j) (omega arith) (omega arith)) in
-    on-test (leb p o) (λ q. rw q (ih t)) (λ q. rw q (ih x))
-
--- where all but the first lie above it, the first does
-first-counts : (ps ts : List ℕ) (o : ℕ) → 0 < length ps → 0 < length ts → ((j : ℕ) → 0 < j → j < length ps → o < getD ps j 0)
-    → timeFrom (getD ts 0 0) ps ts o ≡ getD ts 0 0
-unfolding timeFrom
-first-counts [] ts o a b h = absurd (omega arith)
-first-counts (p ∷ ps) [] o a b h = absurd (omega arith)
-first-counts (p ∷ ps) (t ∷ ts) o a b h =
-    let rest : timeFrom t ps ts o ≡ t = none-count t ps ts o (λ j c. h (suc j) (omega arith) (omega arith)) in
-    on-test (leb p o) (λ q. rw q rest) (λ q. rw q rest)
+-- an entry above another is not entry 0
+pub above-zero : (a b : ℕ) → a < b → 0 < b
+above-zero a b h = omega arith
 
 -- ---- the table in the file
 
@@ -75,14 +26,6 @@ pub record Summed (s : List ℕ) (number position time : ℕ) : Type 0 where
   pub times-most : time ≤ 4294967295 * (number + 1)
 
 module _ (s : List ℕ) (times m : ℕ) (k : Times s times m) where
-  length-positions : length (positionsOf s) ≡ timeCount s
-  unfolding positionsOf positionDeltas
-  length-positions = length-sums 0 _ ∙ length-u32s (timeCount s) s (sectionOf s 0x06 + 12)
-
-  length-times : length (timesOf s) ≡ timeCount s
-  unfolding timesOf timeDeltas
-  length-times = length-sums 0 _ ∙ length-u32s (timeCount s) s (sectionOf s 0x06 + 12 + 4 * timeCount s)
-
   module _ (i : ℕ) (h : i < timeCount s) where
     position-delta : getD (positionDeltas s) i 0 ≡ u32At s (times + 12 + 4 * i)
     unfolding positionDeltas
@@ -97,8 +40,8 @@ module _ (s : List ℕ) (times m : ℕ) (k : Times s times m) where
   unfolding positionsOf timesOf
   entry-first h p t ep et =
       let c = k .count in
-      let lp : length (positionDeltas s) ≡ timeCount s = (unfold positionDeltas in length-u32s (timeCount s) s (sectionOf s 0x06 + 12)) in
-      let lt : length (timeDeltas s) ≡ timeCount s = (unfold timeDeltas in length-u32s (timeCount s) s (sectionOf s 0x06 + 12 + 4 * timeCount s)) in
+      let lp = length-position-deltas s in
+      let lt = length-time-deltas s in
       record {
         within = omega arith;
         position-is = omega (arith, ep, sum-first 0 (positionDeltas s) (omega arith), position-delta 0 (omega arith));
@@ -111,14 +54,14 @@ module _ (s : List ℕ) (times m : ℕ) (k : Times s times m) where
     unfolding positionsOf
     position-next =
         let e : i + 1 ≡ suc i = omega arith in
-        let l : length (positionDeltas s) ≡ timeCount s = (unfold positionDeltas in length-u32s (timeCount s) s (sectionOf s 0x06 + 12)) in
+        let l = length-position-deltas s in
         rw (← position-delta (i + 1) h, e) (sum-next 0 (positionDeltas s) i (omega arith))
 
     time-next : getD (timesOf s) (i + 1) 0 ≡ getD (timesOf s) i 0 + u32At s (times + 12 + 4 * m + 4 * (i + 1))
     unfolding timesOf
     time-next =
         let e : i + 1 ≡ suc i = omega arith in
-        let l : length (timeDeltas s) ≡ timeCount s = (unfold timeDeltas in length-u32s (timeCount s) s (sectionOf s 0x06 + 12 + 4 * timeCount s)) in
+        let l = length-time-deltas s in
         rw (← time-delta (i + 1) h, e) (sum-next 0 (timeDeltas s) i (omega arith))
 
   -- ---- up to the last entry
@@ -149,23 +92,13 @@ module _ (s : List ℕ) (times m : ℕ) (k : Times s times m) where
   module _ (o number position time : ℕ) (w : Latest s o number position time) where
     -- an entry at or below the offset gives its time
     pub down-found : position ≤ o → time ≡ timeOf s o
-    unfolding timeOf
-    down-found h =
-        let l = length-positions in
-        let n = length-times in
-        w .here .time-is
-        ∙ sym (last-counts (getD (timesOf s) 0 0) (positionsOf s) (timesOf s) number o (omega (arith, w .here .within)) (omega (arith, w .here .within)) (omega (arith, w .here .position-is))
-        (λ j a b. w .later j a (omega arith)))
+    down-found h = w .here .time-is ∙ sym (last-decides s o number (w .here .within) (omega (arith, w .here .position-is)) (w .later))
 
     -- so does entry 0, wherever it lies
     pub down-first : number ≤ 0 → time ≡ timeOf s o
-    unfolding timeOf
     down-first h =
         let z : number ≡ 0 = omega arith in
-        let l = length-positions in
-        let n = length-times in
-        w .here .time-is
-        ∙ rw z (sym (first-counts (positionsOf s) (timesOf s) o (omega (arith, w .here .within)) (omega (arith, w .here .within)) (λ j a b. w .later j (omega arith) (omega arith))))
+        w .here .time-is ∙ rw z (sym (entry-0-decides s o (λ j a b. w .later j (omega arith) b)))
 
     module _ (h : 0 < number) (p : ℕ) (ep : p ≡ u32At s (times + 12 + 4 * number)) where
       before : number - 1 + 1 ≡ number

@@ -84,12 +84,7 @@ unfolding tableAllowed
 in-range s a =
     let ps : Bool = all (λ p. ltb p (endOf s)) (positionsOf s) in
     let ts : Bool = all (λ t. leb (firstTime s) t && leb t (lastTime s)) (timesOf s) in
-    let four : Bool = leb 4 (getD (positionsOf s) 0 0) in
-    let steps : Bool = all (leb 1) (drop 1 (timeDeltas s)) in
-    let b = and-both (all (leb 1) (drop 1 (positionDeltas s))) (steps && (four && (ps && ts))) a in
-    let c = and-both steps (four && (ps && ts)) (b .1) in
-    let d = and-both four (ps && ts) (c .1) in
-    and-both ps ts (d .1) .1
+    and-both ps ts (and-both (leb 4 (getD (positionsOf s) 0 0)) (ps && ts) a .1) .1
 
 module _ (s : List ℕ) (times m : ℕ) (k : Times s times m) where
   -- with no entry every time is 0

@@ -1,15 +1,15 @@
 use borrow.Author.Needs.{needs}
 use borrow.Author.Tests.{not-true, not-false}
 use Rattle.lxt_format.specs.Bytes.{u32sAt}
-use Rattle.lxt_tables.proofs.TimesLaws.{sumsKept, Summing, sums-begun, sums-end, sums-stop, sums-turn}
+use Rattle.lxt_tables.proofs.TimesLaws.{sumsWithin, Summing, sums-begun, sums-end, sums-stop, sums-turn}
 use Rattle.lxt_tables.proofs.times.sums_allowed.Statement.{statement}
 use Rattle.lxt_tables.proofs.times.sums_allowed.Tie as tie
 
 abbrev Inv-loop : tie.InvT-loop
-Inv-loop file at m low high p₀ left₀ least₀ sum₀ p left least sum = Summing file low high (sumsKept low high (u32sAt m file at)) p left least sum
+Inv-loop file at m low high p₀ left₀ sum₀ p left sum = Summing file low high (sumsWithin low high 0 (u32sAt m file at)) p left sum
 
 abbrev μ-loop : tie.MeasureT-loop
-μ-loop file at m low high p₀ left₀ least₀ sum₀ p left least sum = left
+μ-loop file at m low high p₀ left₀ sum₀ p left sum = left
 
 loop-holds : tie.Need-loop-holds Inv-loop μ-loop
 loop-holds c = search sums-begun

@@ -1,6 +1,6 @@
 use borrow.Author.Needs.{needs}
 use Rattle.lxt_values.specs.Entries.{Latest}
-use Rattle.lxt_values.proofs.EntryLaws.{down-found, down-first, down-next, position-above, time-above}
+use Rattle.lxt_values.proofs.EntryLaws.{above-zero, down-found, down-first, down-next, position-above, time-above}
 use Rattle.lxt_values.proofs.entries.down.Statement.{statement}
 use Rattle.lxt_values.proofs.entries.down.Tie as tie
 
@@ -23,13 +23,13 @@ cast-position : tie.Need-cast-position Inv-loop μ-loop
 cast-position c = search needs
 
 sub-position : tie.Need-sub-position Inv-loop μ-loop
-sub-position c = search position-above
+sub-position c = search (position-above, above-zero)
 
 cast-time : tie.Need-cast-time Inv-loop μ-loop
 cast-time c = search needs
 
 sub-time : tie.Need-sub-time Inv-loop μ-loop
-sub-time c = search time-above
+sub-time c = search (time-above, above-zero)
 
 sub-number : tie.Need-sub-number Inv-loop μ-loop
 sub-number c = search needs
@@ -38,7 +38,7 @@ loop-less : tie.Need-loop-less Inv-loop μ-loop
 loop-less c = search needs
 
 loop-again : tie.Need-loop-again Inv-loop μ-loop
-loop-again c = search down-next
+loop-again c = search (down-next, above-zero)
 
 returns-2 : tie.Need-returns-2 Inv-loop μ-loop
 returns-2 c = (search needs, search down-first)

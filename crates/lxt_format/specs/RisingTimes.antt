@@ -1,0 +1,79 @@
+-- The rule of 13 before paper 02, Ask 2, and what Ask 2 promises: "A trace accepted before keeps all its answers."
+use Prim.Native.Nat.{ℕ, _≤_, _<_}
+use mathlib.Core.Path.{_≡_}
+use mathlib.Core.Bool.{Bool, true, not, _&&_}
+use mathlib.Core.List.{List}
+use lib.ListN.{getD, drop}
+use lib.Dec.{ltb, leb, eqb}
+use Rattle.lxt_format.specs.Basics.{if_then_else_, _unless_, _orElse_, all}
+use Rattle.lxt_format.specs.Sections.{lengthAllowed, startsRight, endsRight, listingOf, nothingCompressed, present, sectionsPresent, bodiesInside, countAllowed, facilityCount, endOf, timeCount}
+use Rattle.lxt_format.specs.Names.{namesAllowed}
+use Rattle.lxt_format.specs.Geometry.{geometriesAllowed, aliasesAllowed}
+use Rattle.lxt_format.specs.Times.{firstTime, lastTime, positionDeltas, timeDeltas, positionsOf, timesOf, timesAllowed, timeOf}
+use Rattle.lxt_format.specs.Reals.{realTestAllowed}
+use Rattle.lxt_format.specs.Judge.{tablesRefusal, chainsRefusal, changesApart, fileRefusal}
+
+-- ---- the rule of paper 01
+
+-- 13: "Every delta after the first is at least 1; the first position is at least 4, every position below T, and first ≤ each time ≤ last."
+unfoldable pub risingTableAllowed : List ℕ → Bool
+risingTableAllowed s =
+    all (leb 1) (drop 1 (positionDeltas s))
+    && (all (leb 1) (drop 1 (timeDeltas s))
+    && (leb 4 (getD (positionsOf s) 0 0)
+    && (all (λ p. ltb p (endOf s)) (positionsOf s)
+    && all (λ t. leb (firstTime s) t && leb t (lastTime s)) (timesOf s))))
+
+-- without an entry the rule is the same
+unfoldable pub risingTimesAllowed : List ℕ → Bool
+risingTimesAllowed s = if eqb (timeCount s) 0 then timesAllowed s else risingTableAllowed s
+
+-- checks 1 to 14 with it
+unfoldable pub risingTablesRefusal : List ℕ → ℕ
+risingTablesRefusal s =
+    1 unless lengthAllowed s
+    orElse 2 unless startsRight s
+    orElse 3 unless endsRight s
+    orElse 4 unless (listingOf s .listed)
+    orElse 5 unless nothingCompressed s
+    orElse 6 unless not (present s 0x09)
+    orElse 7 unless sectionsPresent s
+    orElse 8 unless bodiesInside s
+    orElse 9 unless countAllowed (facilityCount s)
+    orElse 10 unless namesAllowed s
+    orElse 11 unless geometriesAllowed s
+    orElse 12 unless aliasesAllowed s
+    orElse 13 unless risingTimesAllowed s
+    orElse 14 unless realTestAllowed s
+
+-- the refusal of a file with it
+unfoldable pub risingRefusal : List ℕ → ℕ
+risingRefusal s = risingTablesRefusal s orElse chainsRefusal s orElse 17 unless changesApart s
+
+-- ---- what is kept
+
+-- Entry i gives the time of a change at o by the words of paper 01, "the last entry with position ≤ o, or .. entry 0 where none is", taken by positions
+-- alone: of the entries at or before o none lies higher, whichever it is among those at its own position.
+pub data Gives (s : List ℕ) (o i : ℕ) : Type 0 where
+  reached : i < timeCount s → getD (positionsOf s) i 0 ≤ o
+      → ((j : ℕ) → j < timeCount s → getD (positionsOf s) j 0 ≤ o → getD (positionsOf s) j 0 ≤ getD (positionsOf s) i 0) → Gives s o i
+  before-all : i ≡ 0 → ((j : ℕ) → j < timeCount s → o < getD (positionsOf s) j 0) → Gives s o i
+
+-- The claims, which RisingTimesLaws proves. A file that the old rule does not refuse as 13 has the refusal that it had: none where it was accepted. So
+-- it is for every call that judges, and for carrying on, which makes checks 1 to 14.
+abbrev pub KeepsRefusals : Type 0
+KeepsRefusals = (s : List ℕ) → (risingRefusal s ≡ 13 → ⊥) → (fileRefusal s ≡ risingRefusal s) × (tablesRefusal s ≡ risingTablesRefusal s)
+
+-- In a table that the old rule allows each change has the time of the entry that gives it: how equal positions are decided does not touch it.
+abbrev pub KeepsTimes : Type 0
+KeepsTimes = (s : List ℕ) → risingTimesAllowed s ≡ true → (o i : ℕ) → Gives s o i → timeOf s o ≡ getD (timesOf s) i 0
+
+-- the times of changes as a reader by the old rule finds them, whichever it takes of entries at one position
+abbrev pub FoundBefore : List ℕ → (ℕ → ℕ) → Type 0
+FoundBefore s time = (o : ℕ) → (i : ℕ) × (Gives s o i × (time o ≡ getD (timesOf s) i 0))
+
+-- So each answer of an accepted file is kept: whatever is made of its refusals, of these times, and of what Ask 2 leaves alone.
+abbrev pub KeepsAnswers : Type 1
+KeepsAnswers =
+    (s : List ℕ) → risingRefusal s ≡ 0 → (time : ℕ → ℕ) → FoundBefore s time
+    → (A : Type 0) (answer : ℕ → ℕ → (ℕ → ℕ) → A) → answer (fileRefusal s) (tablesRefusal s) (timeOf s) ≡ answer (risingRefusal s) (risingTablesRefusal s) time
