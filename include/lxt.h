@@ -68,8 +68,8 @@ enum lxt_refusal {
     LXT_REFUSED_GEOMETRY = 11,
     /* in the geometry section an alias leads to no facility, or in a circle */
     LXT_REFUSED_ALIAS = 12,
-    /* in the times section positions or times are out of order or out of bounds, or there is no entry
-       although there are changes */
+    /* in the times section a position or a time is out of bounds, or there is no entry although there
+       are changes */
     LXT_REFUSED_TIMES = 13,
     /* there is a real facility, and the real test section (tag 08) is absent, out of bounds or no
        reordering of 3.14159 */

@@ -52,8 +52,8 @@ risingRefusal s = risingTablesRefusal s orElse chainsRefusal s orElse 17 unless 
 
 -- ---- what is kept
 
--- Entry i gives the time of a change at o by the words of paper 01, "the last entry with position ≤ o, or .. entry 0 where none is", taken by positions
--- alone: of the entries at or before o none lies higher, whichever it is among those at its own position.
+-- Entry i may give the time of a change at o by the words of paper 01, "the last entry with position ≤ o, or .. entry 0 where none is", where last is
+-- only said of positions: it is any of those entries at or before o above which no other lies.
 pub data Gives (s : List ℕ) (o i : ℕ) : Type 0 where
   reached : i < timeCount s → getD (positionsOf s) i 0 ≤ o
       → ((j : ℕ) → j < timeCount s → getD (positionsOf s) j 0 ≤ o → getD (positionsOf s) j 0 ≤ getD (positionsOf s) i 0) → Gives s o i
@@ -64,16 +64,21 @@ pub data Gives (s : List ℕ) (o i : ℕ) : Type 0 where
 abbrev pub KeepsRefusals : Type 0
 KeepsRefusals = (s : List ℕ) → (risingRefusal s ≡ 13 → ⊥) → (fileRefusal s ≡ risingRefusal s) × (tablesRefusal s ≡ risingTablesRefusal s)
 
--- In a table that the old rule allows each change has the time of the entry that gives it: how equal positions are decided does not touch it.
+-- In a table that the old rule allows each change has the time of every entry that may give it: which of equal positions decides does not touch it.
 abbrev pub KeepsTimes : Type 0
 KeepsTimes = (s : List ℕ) → risingTimesAllowed s ≡ true → (o i : ℕ) → Gives s o i → timeOf s o ≡ getD (timesOf s) i 0
 
--- the times of changes as a reader by the old rule finds them, whichever it takes of entries at one position
-abbrev pub FoundBefore : List ℕ → (ℕ → ℕ) → Type 0
-FoundBefore s time = (o : ℕ) → (i : ℕ) × (Gives s o i × (time o ≡ getD (timesOf s) i 0))
+-- times of changes as a reader by the words of paper 01 may find them, whichever it takes of several entries at one position
+abbrev pub TimesRead : List ℕ → (ℕ → ℕ) → Type 0
+TimesRead s time = (o : ℕ) → (i : ℕ) × (Gives s o i × (time o ≡ getD (timesOf s) i 0))
 
--- So each answer of an accepted file is kept: whatever is made of its refusals, of these times, and of what Ask 2 leaves alone.
+-- `timeOf` is one such reading, of any table
+abbrev pub ReadsTimes : Type 0
+ReadsTimes = (s : List ℕ) → TimesRead s (timeOf s)
+
+-- So each answer about a file that the old rule accepts is kept: whatever is made of its refusals, of the times of its changes in any such reading, and
+-- of what Ask 2 leaves alone.
 abbrev pub KeepsAnswers : Type 1
 KeepsAnswers =
-    (s : List ℕ) → risingRefusal s ≡ 0 → (time : ℕ → ℕ) → FoundBefore s time
+    (s : List ℕ) → risingRefusal s ≡ 0 → (time : ℕ → ℕ) → TimesRead s time
     → (A : Type 0) (answer : ℕ → ℕ → (ℕ → ℕ) → A) → answer (fileRefusal s) (tablesRefusal s) (timeOf s) ≡ answer (risingRefusal s) (risingTablesRefusal s) time

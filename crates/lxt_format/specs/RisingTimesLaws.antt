@@ -1,12 +1,12 @@
 -- What a file keeps that the rule of 13 before paper 02, Ask 2, accepts: the proofs of the claims of RisingTimes.
-use Prim.Native.Nat.{ℕ, _≤_, _<_}
+use Prim.Native.Nat.{ℕ, zero, suc, _+_, _≤_, _<_}
 use mathlib.Core.Path.{_≡_, refl, sym, _∙_, fun-ext}
 use mathlib.Core.Bool.{Bool, true, false, not, _&&_, false≢true}
 use mathlib.Core.List.{List}
 use lib.ListN.{length, getD, drop}
 use lib.Dec.{ltb, leb, eqb}
 use native.Mathlib.Omega.{arith}
-use native.Mathlib.Decide.{decLe}
+use native.Mathlib.Decide.{decLe, ℕ-discrete}
 use borrow.Author.Tests.{ne-eqb}
 use Rattle.lxt_format.specs.Basics.{_unless_, _orElse_, all}
 use Rattle.lxt_format.specs.BasicsLaws.{on-test, and-both, neither}
@@ -14,10 +14,10 @@ use Rattle.lxt_format.specs.Sections.{lengthAllowed, startsRight, endsRi
 use Rattle.lxt_format.specs.Names.{namesAllowed}
 use Rattle.lxt_format.specs.Geometry.{geometriesAllowed, aliasesAllowed}
 use Rattle.lxt_format.specs.Times.{firstTime, lastTime, positionDeltas, timeDeltas, positionsOf, timesOf, tableAllowed, timesAllowed, timeOf}
-use Rattle.lxt_format.specs.TimesLaws.{sums-rise, length-position-deltas, last-decides, entry-0-decides}
+use Rattle.lxt_format.specs.TimesLaws.{sums-apart, positions-never-fall, length-position-deltas, last-decides, entry-0-decides}
 use Rattle.lxt_format.specs.Reals.{realTestAllowed}
 use Rattle.lxt_format.specs.Judge.{tablesRefusal, fileRefusal}
-use Rattle.lxt_format.specs.RisingTimes.{risingTableAllowed, risingTimesAllowed, risingTablesRefusal, risingRefusal, Gives, reached, before-all, KeepsRefusals, KeepsTimes, KeepsAnswers}
+use Rattle.lxt_format.specs.RisingTimes.{risingTableAllowed, risingTimesAllowed, risingTablesRefusal, risingRefusal, Gives, reached, before-all, KeepsRefusals, KeepsTimes, ReadsTimes, KeepsAnswers}
 
 -- ---- refusals
 
@@ -69,12 +69,13 @@ keeps-refusals s n =
 
 -- ---- times
 
--- two entries at one position are one entry
+-- positions rise, so that no two entries share one
 rising : (s : List ℕ) → risingTableAllowed s ≡ true → (i j : ℕ) → i < j → j < timeCount s → getD (positionsOf s) i 0 < getD (positionsOf s) j 0
 unfolding risingTableAllowed positionsOf
 rising s h i j k l =
     let count = length-position-deltas s in
-    sums-rise 0 (positionDeltas s) (and-both (all (leb 1) (drop 1 (positionDeltas s))) _ h .0) i j k (omega arith)
+    let apart = sums-apart 1 0 (positionDeltas s) (and-both (all (leb 1) (drop 1 (positionDeltas s))) _ h .0) i j k (omega arith) in
+    omega arith
 
 pub keeps-times : KeepsTimes
 unfolding risingTimesAllowed
@@ -91,6 +92,29 @@ keeps-times s h o i (reached k l highest) = last-decides s o i k l later
           | yes q ↦ (let down = highest j b q in absurd (omega arith))
           | no q ↦ omega arith
         ]
+
+-- the entry that gives the time of a change at o, where those from k on lie above o
+last-of : (s : List ℕ) (o k : ℕ) → k ≤ timeCount s → ((j : ℕ) → k ≤ j → j < timeCount s → o < getD (positionsOf s) j 0)
+    → (i : ℕ) × (Gives s o i × (timeOf s o ≡ getD (timesOf s) i 0))
+last-of s o zero l above = (0, (before-all refl (λ j b. above j (omega arith) b), entry-0-decides s o (λ j a b. above j (omega arith) b)))
+last-of s o (suc k) l above =
+    elim (decLe (getD (positionsOf s) k 0) o) [
+      | yes q ↦ (k, (reached (omega arith) q highest, last-decides s o k (omega arith) q (λ j a b. above j (omega arith) b)))
+      | no q ↦ last-of s o k (omega arith) (further q)
+    ]
+  where
+    highest : (j : ℕ) → j < timeCount s → getD (positionsOf s) j 0 ≤ o → getD (positionsOf s) j 0 ≤ getD (positionsOf s) k 0
+    highest j b r =
+        elim (decLe j k) [
+          | yes q ↦ elim (ℕ-discrete j k) [ yes e ↦ rw e (omega arith) | no n ↦ positions-never-fall s j k (omega arith) (omega arith) ]
+          | no q ↦ (let up = above j (omega arith) b in absurd (omega arith))
+        ]
+
+    further : (getD (positionsOf s) k 0 ≤ o → ⊥) → (j : ℕ) → k ≤ j → j < timeCount s → o < getD (positionsOf s) j 0
+    further q j a b = elim (ℕ-discrete j k) [ yes e ↦ rw e (omega arith) | no n ↦ above j (omega arith) b ]
+
+pub reads-times : ReadsTimes
+reads-times s o = last-of s o (timeCount s) (omega arith) (λ j a b. absurd (omega arith))
 
 -- ---- answers
 

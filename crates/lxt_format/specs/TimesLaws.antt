@@ -4,7 +4,7 @@ use mathlib.Core.Path.{_≡_, refl, _∙_, ap}
 use mathlib.Core.Bool.{true}
 use mathlib.Core.List.{List, [], _∷_}
 use lib.ListN.{length, getD, drop}
-use lib.Dec.{leb}
+use lib.Dec.{leb, leb·zero}
 use native.Mathlib.Omega.{arith}
 use borrow.Author.Tests.{le-leb, lt-leb, leb-true}
 use Rattle.lxt_format.specs.Basics.{all}
@@ -32,23 +32,32 @@ sum-next a [] i h = absurd (omega arith)
 sum-next a (d ∷ ds) zero h = sum-first (a + d) ds (omega arith)
 sum-next a (d ∷ ds) (suc i) h = sum-next (a + d) ds i (omega arith)
 
--- where every delta is at least 1, the sums rise above what they start from
-sums-above : (a : ℕ) (ds : List ℕ) → all (leb 1) ds ≡ true → (j : ℕ) → j < length ds → a < getD (sumsFrom a ds) j 0
+-- where every delta is at least `least`, so far do the sums lie above what they start from
+sums-above : (least a : ℕ) (ds : List ℕ) → all (leb least) ds ≡ true → (j : ℕ) → j < length ds → a + least ≤ getD (sumsFrom a ds) j 0
 unfolding sumsFrom all
-sums-above a [] h j l = absurd (omega arith)
-sums-above a (d ∷ ds) h zero l = let least = leb-true 1 d (and-both (leb 1 d) (all (leb 1) ds) h .0) in omega arith
-sums-above a (d ∷ ds) h (suc j) l = let ih = sums-above (a + d) ds (and-both (leb 1 d) (all (leb 1) ds) h .1) j (omega arith) in omega arith
+sums-above least a [] h j l = absurd (omega arith)
+sums-above least a (d ∷ ds) h zero l = let first = leb-true least d (and-both (leb least d) (all (leb least) ds) h .0) in omega arith
+sums-above least a (d ∷ ds) h (suc j) l = let ih = sums-above least (a + d) ds (and-both (leb least d) (all (leb least) ds) h .1) j (omega arith) in omega arith
 
--- and one after the other
-pub sums-rise : (a : ℕ) (ds : List ℕ) → all (leb 1) (drop 1 ds) ≡ true → (i j : ℕ) → i < j → j < length ds
-    → getD (sumsFrom a ds) i 0 < getD (sumsFrom a ds) j 0
+-- where every delta after the first is, so far does a later sum lie above an earlier one
+pub sums-apart : (least a : ℕ) (ds : List ℕ) → all (leb least) (drop 1 ds) ≡ true → (i j : ℕ) → i < j → j < length ds
+    → getD (sumsFrom a ds) i 0 + least ≤ getD (sumsFrom a ds) j 0
 unfolding sumsFrom all
-sums-rise a [] h i j k l = absurd (omega arith)
-sums-rise a (d ∷ ds) h i zero k l = absurd (omega arith)
-sums-rise a (d ∷ ds) h zero (suc j) k l = sums-above (a + d) ds h j (omega arith)
-sums-rise a (d ∷ []) h (suc i) (suc j) k l = absurd (omega arith)
-sums-rise a (d ∷ (e ∷ ds)) h (suc i) (suc j) k l =
-    sums-rise (a + d) (e ∷ ds) (and-both (leb 1 e) (all (leb 1) ds) h .1) i j (omega arith) (omega arith)
+sums-apart least a [] h i j k l = absurd (omega arith)
+sums-apart least a (d ∷ ds) h i zero k l = absurd (omega arith)
+sums-apart least a (d ∷ ds) h zero (suc j) k l = sums-above least (a + d) ds h j (omega arith)
+sums-apart least a (d ∷ []) h (suc i) (suc j) k l = absurd (omega arith)
+sums-apart least a (d ∷ (e ∷ ds)) h (suc i) (suc j) k l =
+    sums-apart least (a + d) (e ∷ ds) (and-both (leb least e) (all (leb least) ds) h .1) i j (omega arith) (omega arith)
+
+-- every delta is at least 0: sums never fall
+at-least-0 : (ds : List ℕ) → all (leb 0) ds ≡ true
+unfolding all
+at-least-0 [] = refl
+at-least-0 (d ∷ ds) = rw (leb·zero d) (at-least-0 ds)
+
+pub sums-never-fall : (a : ℕ) (ds : List ℕ) (i j : ℕ) → i < j → j < length ds → getD (sumsFrom a ds) i 0 ≤ getD (sumsFrom a ds) j 0
+sums-never-fall a ds i j k l = let apart = sums-apart 0 a ds (at-least-0 (drop 1 ds)) i j k l in omega arith
 
 -- ---- entries, and an offset
 
@@ -99,6 +108,10 @@ module _ (s : List ℕ) where
   pub length-times : length (timesOf s) ≡ timeCount s
   unfolding timesOf
   length-times = length-sums 0 (timeDeltas s) ∙ length-time-deltas
+
+  pub positions-never-fall : (i j : ℕ) → i < j → j < timeCount s → getD (positionsOf s) i 0 ≤ getD (positionsOf s) j 0
+  unfolding positionsOf
+  positions-never-fall i j k l = let count = length-position-deltas in sums-never-fall 0 (positionDeltas s) i j k (omega arith)
 
   -- "the time of the last entry with position ≤ o": the entries after it lie above o, so of several at its position it is the last
   pub last-decides : (o i : ℕ) → i < timeCount s → getD (positionsOf s) i 0 ≤ o → ((j : ℕ) → i < j → j < timeCount s → o < getD (positionsOf s) j 0)

@@ -15,7 +15,7 @@ use Rattle.lxt_format.specs.Traces.{spelled, trace, entries, endOfTrace}
 use Rattle.lxt_format.specs.Examples.{Row, row, Holds, pair}
 
 -- the small trace, whose changes are at 4 and 6, with another time table
-tabled : ℕ → ℕ → List ℕ → List ℕ → List ℕ
+unfoldable pub tabled : ℕ → ℕ → List ℕ → List ℕ → List ℕ
 unfolding trace spelled
 tabled first last positions times =
     take entries trace

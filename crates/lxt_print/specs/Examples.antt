@@ -1,6 +1,6 @@
 -- "For the trace below it prints four lines, exactly"; lines of refused files; and both sides of the longest file that is printed.
 use mathlib.Core.Path.{_≡_, refl, _∙_}
-use mathlib.Core.List.{List, [], _++_}
+use mathlib.Core.List.{List, [], _∷_, _++_}
 use lib.ListN.{length, set}
 use lib.Dec.{eqb}
 use Prim.Native.Nat.{ℕ}
@@ -9,6 +9,8 @@ use Rattle.lxt_format.specs.Changes.{digits}
 use Rattle.lxt_format.specs.Judge.{fileRefusal}
 use Rattle.lxt_format.specs.Everything.{everything}
 use Rattle.lxt_format.specs.Traces.{spelled, trace}
+use Rattle.lxt_format.specs.Examples.{Row, row, Holds}
+use Rattle.lxt_format.specs.ZeroDeltas.{tabled}
 use Rattle.lxt_print.specs.Lines.{decimalWithin, decimal, hexDigit, hexByte, hexBytes, facilityWord, changeWord, doneWord, refusedWord, aliasWord, kindWord, facilityLine, valueText, changeLine, doneLine, refusedLine, acceptedText, printRefusal, printed}
 
 -- "facility 0 a bits 1", "change 0 6 5 0", "change 0 4 0 1", "done 2"
@@ -22,6 +24,35 @@ four-lines =
 pub prints-four-lines : printed trace ≡ four-lines
 unfolding everything trace spelled decimalWithin decimal hexDigit hexByte hexBytes facilityWord changeWord doneWord refusedWord aliasWord kindWord facilityLine valueText changeLine doneLine refusedLine acceptedText printRefusal printed
 prints-four-lines = refl
+
+-- the small trace with other time tables: the printed lines of the examples 2-A to 2-I of paper 02, Ask 2. The times of its changes stand in them as one
+-- digit each.
+abbrev linesWith : ℕ → ℕ → List ℕ
+linesWith newer older =
+    spelled 20 0x666163696C69747920302061206269747320310A
+    ++ (spelled 11 0x6368616E67652030203620 ++ newer ∷ spelled 3 0x20300A)
+    ++ (spelled 11 0x6368616E67652030203420 ++ older ∷ spelled 3 0x20310A)
+    ++ spelled 7 0x646F6E6520320A
+
+abbrev refused13 : List ℕ
+refused13 = spelled 11 0x726566757365642031330A
+
+pub zeroDeltas : List Row
+zeroDeltas =
+    row 0xA (printed (tabled 0 5 (4 ∷ 0 ∷ []) (0 ∷ 5 ∷ []))) (linesWith 0x35 0x35)
+    ∷ row 0xB (printed (tabled 0 5 (5 ∷ 0 ∷ []) (1 ∷ 4 ∷ []))) (linesWith 0x35 0x31)
+    ∷ row 0xC (printed (tabled 0 5 (6 ∷ 0 ∷ 0 ∷ []) (1 ∷ 1 ∷ 1 ∷ []))) (linesWith 0x33 0x31)
+    ∷ row 0xD (printed (tabled 0 5 (4 ∷ 2 ∷ []) (5 ∷ 0 ∷ []))) (linesWith 0x35 0x35)
+    ∷ row 0xE (printed (tabled 0 5 (4 ∷ 2 ∷ 0 ∷ []) (0 ∷ 5 ∷ 0 ∷ []))) (linesWith 0x35 0x30)
+    ∷ row 0xF (printed (tabled 0 5 (0 ∷ 4 ∷ []) (0 ∷ 5 ∷ []))) refused13
+    ∷ row 0x10 (printed (tabled 0 5 (3 ∷ 0 ∷ []) (0 ∷ 5 ∷ []))) refused13
+    ∷ row 0x11 (printed (tabled 1 5 (4 ∷ 0 ∷ []) (0 ∷ 5 ∷ []))) refused13
+    ∷ row 0x12 (printed (tabled 0 5 (67 ∷ 0 ∷ []) (0 ∷ 5 ∷ []))) (linesWith 0x30 0x30)
+    ∷ []
+
+pub zero-deltas-printed : Holds zeroDeltas
+unfolding everything trace spelled tabled decimalWithin decimal hexDigit hexByte hexBytes facilityWord changeWord doneWord refusedWord aliasWord kindWord facilityLine valueText changeLine doneLine refusedLine acceptedText printRefusal printed zeroDeltas
+zero-deltas-printed = (refl, (refl, (refl, (refl, (refl, (refl, (refl, (refl, (refl, tt)))))))))
 
 -- "refused 1"
 refused-1 : refusedLine 1 ≡ spelled 10 0x7265667573656420310A

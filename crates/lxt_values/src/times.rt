@@ -7,7 +7,8 @@ ghost use Rattle.lxt_values.specs.Times.{Times, Limit, Readable};
 use lxt_changes::delta;
 use lxt_sections::times::deltas_of;
 
-// The time of a change at `o`, by one pass over the time table of `m` entries; 0 where it is empty.
+// The time of a change at `o`, by one pass over the time table of `m` entries: that of the last entry at
+// or below `o`, of entry 0 where none is, 0 where the table is empty.
 pub fn time_of(file: &[u8], times: usize, m: u32, o: usize) -> u32
     requires { ⌜ Times (now file) times m ⌝ }
     ensures { λ r. ⌜ r ≡ timeOf (now (file .entry)) o ⌝ }
@@ -34,8 +35,8 @@ pub fn time_of(file: &[u8], times: usize, m: u32, o: usize) -> u32
 }
 
 // The offset below which a change has a time of at most `t`: the position of the first entry with a
-// later time, 0 where entry 0 is later, the end of the file where none is. Times never fall along the
-// table, so that one pass finds it.
+// later time, 0 where entry 0 is later, the end of the file where none is. Neither positions nor times
+// ever fall along the table, so that one pass finds it.
 fn limit(file: &[u8], times: usize, m: u32, t: u32) -> usize
     requires { ⌜ Times (now file) times m ⌝ }
     ensures { λ r. ⌜ Limit (now (file .entry)) t r ⌝ }

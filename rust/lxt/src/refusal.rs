@@ -47,7 +47,7 @@ refusals! {
     10 Names "in the names section a name passes END, takes more than the name before has or is longer than 1,023 bytes, or all need more than the stated memory"
     11 Geometry "in the geometry section the rows, flags or width of a facility are not allowed"
     12 Alias "in the geometry section an alias leads to no facility, or in a circle"
-    13 Times "in the times section positions or times are out of order or out of bounds, or there is no entry although there are changes"
+    13 Times "in the times section a position or a time is out of bounds, or there is no entry although there are changes"
     14 RealTest "there is a real facility, and the real test section (tag 08) is absent, out of bounds or no reordering of 3.14159"
     15 ChangePlace "a change starts outside the changes section, passes END, or leads back to an offset that is neither 0 nor in that section"
     16 ChangeBytes "a change has a command byte or data that its facility does not allow"
