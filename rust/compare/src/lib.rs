@@ -5,6 +5,7 @@
 
 pub mod judge;
 pub mod questions;
+pub mod times;
 pub mod walk;
 
 use std::collections::BTreeMap;
@@ -121,5 +122,19 @@ impl Compared {
         let judged = |clean| self.judged.padding.get(&clean).copied().unwrap_or(0);
         let judged = [true, false].map(|clean| u64::from(judged(clean)));
         [("judge", judged), ("change", self.questions.padding())]
+    }
+
+    /// How many times zero deltas of the times were met: in accepted files, and where it shows which of the
+    /// entries at one position decides.
+    pub fn zero_deltas(&self) -> [(&'static str, u64); 5] {
+        let files = self.judged.times;
+        let [after, before, between] = self.questions.shared();
+        [
+            ("files with entries at one position", files.shared.into()),
+            ("files with entries of one time", files.equal.into()),
+            ("changes after a shared position", after),
+            ("changes before a shared first position", before),
+            ("values between the times of one position", between),
+        ]
     }
 }

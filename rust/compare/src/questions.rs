@@ -7,6 +7,8 @@ use std::fmt::Debug;
 use lxt::Refusal;
 use lxt_reference::Judged;
 
+use crate::times::Entries;
+
 /// Bytes on either side of a lent part, which nothing may write.
 const AROUND: usize = 8;
 
@@ -85,27 +87,32 @@ fn sort_of_change(read: &lxt_reference::Changed) -> &'static str {
     }
 }
 
-/// What was compared: the questions by their answer's sort or their refusal's number.
+/// What was compared.
 #[derive(Default)]
-pub struct Seen(BTreeMap<(&'static str, &'static str, u8), u64>);
+pub struct Seen {
+    /// The questions by their answer's sort or their refusal's number.
+    asked: BTreeMap<(&'static str, &'static str, u8), u64>,
+    /// The answers that entries at one position decide, as `shared` gives them.
+    shared: [u64; 3],
+}
 
 impl Seen {
     pub fn count(&self, question: &str, sort: &str, number: u8) -> u64 {
         let of = |key: &(&str, &str, u8)| *key == (question, sort, number);
-        let counts = self.0.iter().filter(|(key, _)| of(key));
+        let counts = self.asked.iter().filter(|(key, _)| of(key));
         counts.map(|(_, count)| count).sum()
     }
 
     /// How many times each question got an answer, as 0, or a refusal, as its number.
     pub fn answers(&self) -> impl Iterator<Item = (&'static str, u8, u64)> + '_ {
-        let counts = self.0.iter();
+        let counts = self.asked.iter();
         counts.map(|((question, _, number), count)| (*question, *number, *count))
     }
 
     /// How many changes were read whose padding is clean, and how many whose is not.
     pub fn padding(&self) -> [u64; 2] {
         let read = |of: fn(&str) -> bool| {
-            let counts = self.0.iter();
+            let counts = self.asked.iter();
             let counts = counts.filter(|((question, sort, number), _)| {
                 (*question, *number) == ("change", 0) && of(sort)
             });
@@ -117,9 +124,20 @@ impl Seen {
         ]
     }
 
+    /// How many changes were read whose time shows which of several entries at one position decides: the
+    /// last, or entry 0 since the change lies before every position. Then how many values were asked for
+    /// while such a change is there by one of these entries and not yet by another, at times that are not
+    /// next to a change's.
+    pub fn shared(&self) -> [u64; 3] {
+        self.shared
+    }
+
     pub fn report(&self, what: &str) {
-        let total: u64 = self.0.values().sum();
-        println!("{what}: {total} questions {:?}", self.0);
+        let total: u64 = self.asked.values().sum();
+        let [after, before, between] = self.shared;
+        println!("{what}: {total} questions {:?}", self.asked);
+        println!("  by the last of several entries {after}, by entry 0 of several {before}");
+        println!("  between their times {between}");
     }
 }
 
@@ -127,15 +145,19 @@ impl Seen {
 struct Asked<'a> {
     file: &'a [u8],
     judged: Result<Judged<'a>, u8>,
+    entries: Entries,
     what: &'a str,
     seen: &'a mut Seen,
 }
 
 impl<'a> Asked<'a> {
     fn new(file: &'a [u8], what: &'a str, seen: &'a mut Seen) -> Self {
+        let judged = Judged::new(file);
+        let entries = judged.as_ref().map(Entries::of).unwrap_or_default();
         Asked {
             file,
-            judged: Judged::new(file),
+            judged,
+            entries,
             what,
             seen,
         }
@@ -161,7 +183,7 @@ impl<'a> Asked<'a> {
             Ok(answer) => (question.0, sort(answer), 0),
             Err(number) => (question.0, "refused", *number),
         };
-        *self.seen.0.entry(key).or_default() += 1;
+        *self.seen.asked.entry(key).or_default() += 1;
         if answer != expected.0 || proved.1 != expected.1 {
             panic!(
                 "{question:?} of {}\nproved {answer:?} {:02X?}\nexpected {:?} {:02X?}\nfile {:02X?}",
@@ -263,6 +285,9 @@ impl<'a> Asked<'a> {
             clean: read.clean,
         });
         let expected = self.expect(|judged| judged.change(facility, offset, lent(&mut theirs)));
+        if let (Ok(_), Some(shared)) = (expected, self.entries.shared(offset)) {
+            self.seen.shared[usize::from(shared.before_all)] += 1;
+        }
         self.same(
             ("change", &[facility, offset, room as u32]),
             sort_of_change,
@@ -322,7 +347,21 @@ pub fn compare(file: &[u8], what: &str, most: Most, seen: &mut Seen) {
         let mut room = vec![0; facts.width as usize];
         let read = |offset: &u32| judged.change(facility, *offset, &mut room);
         let times = own.iter().map(read).map(|it| it.expect("a change").time);
-        let times: Vec<u32> = times.collect();
+        let of_changes = around(&Vec::from_iter(times));
+        // Of entries at one position also the times that do not decide, and others between them.
+        let (mut others, mut between) = (Vec::new(), Vec::new());
+        for shared in own.iter().filter_map(|it| asked.entries.shared(*it)) {
+            let some = sample(&shared.times(), 4);
+            let middle = |pair: &[u32]| pair[0] + (pair[1] - pair[0]) / 2;
+            others.extend(some.windows(2).map(middle));
+            others.extend(some);
+            between.push(shared.between());
+        }
+        let mut times = around(&others);
+        times.retain(|time| !of_changes.contains(time));
+        let shows = |time: &&u32| between.iter().any(|it| it.contains(time));
+        let shown = times.iter().filter(shows).count() as u64;
+        times.extend(of_changes);
 
         let mut offsets = around(&own);
         offsets.extend(around(&[summary.changes, summary.end]));
@@ -333,15 +372,17 @@ pub fn compare(file: &[u8], what: &str, most: Most, seen: &mut Seen) {
 
         let width = facts.width as usize;
         let rooms = BTreeSet::from([width.saturating_sub(1), width, width + 5]);
-        plans.push((facility, offsets, around(&times), rooms));
+        plans.push((facility, offsets, times, rooms, shown));
     }
     for facility in [summary.facilities, u32::MAX] {
         let numbers = around(&[summary.changes]);
-        plans.push((facility, numbers.clone(), numbers, BTreeSet::from([0, 40])));
+        let rooms = BTreeSet::from([0, 40]);
+        plans.push((facility, numbers.clone(), numbers, rooms, 0));
     }
-    for (facility, offsets, times, rooms) in plans {
+    for (facility, offsets, times, rooms, shown) in plans {
         let offsets = Vec::from_iter(offsets);
         let times = Vec::from_iter(times);
         asked.facility(facility, &offsets, &times, &Vec::from_iter(rooms));
+        asked.seen.shared[2] += shown;
     }
 }

@@ -7,6 +7,8 @@ use lxt::{Pair, Refusal};
 use lxt_generate::Random;
 use lxt_reference::{Fault, Judged, RecordFault, Tables};
 
+use crate::times::Entries;
+
 /// Pairs and numbers on either side of a lent part, which nothing may write.
 const AROUND: usize = 4;
 
@@ -520,6 +522,7 @@ pub fn whole_walks(file: &[u8], what: &str, seen: &mut Seen) {
         _ => 3,
     };
     let clean = judged.summary().clean;
+    let shared = Entries::of(&judged).share_position();
     for asked in asked_sets(&judged, &mut random) {
         let list = judged.full_list(&asked).expect("a full list");
         whole_walk(&mut calls, &asked, &list, most, &mut random);
@@ -527,6 +530,11 @@ pub fn whole_walks(file: &[u8], what: &str, seen: &mut Seen) {
         let mut read = |(root, offset): &(u32, u32)| judged.change(*root, *offset, &mut bits);
         if !clean && list.iter().any(|it| read(it).is_ok_and(|it| !it.clean)) {
             calls.seen.meet("whole walks over dirty changes");
+        }
+        if shared && !list.is_empty() {
+            calls
+                .seen
+                .meet("whole walks beside entries at one position");
         }
     }
 }

@@ -69,9 +69,11 @@ pub const DAMAGES: &[Damage] = &[
     damage(12, "alias target n", alias_target),
     damage(12, "alias cycle", alias_cycle),
     damage(13, "first position below 4", first_position),
+    damage(13, "first position below 4, then zeros", repeated_position),
     damage(13, "position T", last_position),
-    damage(13, "delta 0", zero_delta),
     damage(13, "time before first or after last", time_bounds),
+    damage(13, "equal times before first or after last", equal_times),
+    damage(13, "time of an entry that never decides", undeciding_time),
     damage(13, "position sum past 2^32", position_sum),
     damage(13, "time sum past 2^32", time_sum),
     damage(13, "no entry for a change", no_entry),
@@ -604,31 +606,45 @@ fn first_position(draft: &Draft, random: &mut Random) -> Option<Neighbours> {
     )
 }
 
-fn last_position(draft: &Draft, random: &mut Random) -> Option<Neighbours> {
-    // T lies behind the new table of one or two entries.
-    let two = random.chance(1, 2);
-    let end = (draft.end() + if two { 28 } else { 20 }) as u32;
-    let make = |position: u32| match two {
-        true => with_times(draft, 0, 9, &[4, position - 4], &[0, 9]),
-        false => with_times(draft, 0, 9, &[position], &[9]),
-    };
-    let over = random.pick(&[end, end, 0x8000_0000, 0xFFFF_FFFF]);
-    accepted(make(end - 1), make(over))
+/// So many deltas, each 0 or 1 but the first.
+fn small_deltas(random: &mut Random, first: u32, count: usize) -> Vec<u32> {
+    let mut deltas: Vec<u32> = (0..count).map(|_| random.pick(&[0, 1])).collect();
+    deltas[0] = first;
+    deltas
 }
 
-fn zero_delta(draft: &Draft, random: &mut Random) -> Option<Neighbours> {
-    let m = random.within(2, 5) as usize;
-    let mut positions = vec![1; m];
-    positions[0] = 4;
-    let mut times = vec![1; m];
-    times[0] = random.pick(&[0, 1]);
-    let near = with_times(draft, 0, 9, &positions, &times);
-    let place = 1 + random.below(m - 1);
-    match random.chance(1, 2) {
-        true => positions[place] = 0,
-        false => times[place] = 0,
-    }
-    accepted(near, with_times(draft, 0, 9, &positions, &times))
+/// All entries share the first position, by deltas of 0.
+fn repeated_position(draft: &Draft, random: &mut Random) -> Option<Neighbours> {
+    let m = random.within(2, 6) as usize;
+    let times = small_deltas(random, 0, m);
+    let make = |first| {
+        let mut positions = vec![0; m];
+        positions[0] = first;
+        with_times(draft, 0, 9, &positions, &times)
+    };
+    accepted(make(4), make(random.pick(&[0, 1, 2, 3, 3])))
+}
+
+/// The last position is T - 1 or T, and up to two more entries share it; or the last of them steps from
+/// the one to the other.
+fn last_position(draft: &Draft, random: &mut Random) -> Option<Neighbours> {
+    let (before, behind) = (random.below(2), random.below(3));
+    let m = before + 1 + behind;
+    let times = small_deltas(random, 3, m);
+    // T lies behind the new table.
+    let end = (draft.end() + 12 + 8 * m) as u32;
+    let make = |position: u32, step: u32| {
+        let mut positions = vec![4; before];
+        positions.push(position - 4 * before as u32);
+        positions.extend(vec![0; behind]);
+        positions[m - 1] += step;
+        with_times(draft, 0, 9, &positions, &times)
+    };
+    let over = match random.chance(1, 3) {
+        true => make(end - 1, 1),
+        false => make(random.pick(&[end, end, 0x8000_0000, 0xFFFF_FFFF]), 0),
+    };
+    accepted(make(end - 1, 0), over)
 }
 
 fn time_bounds(draft: &Draft, random: &mut Random) -> Option<Neighbours> {
@@ -642,20 +658,78 @@ fn time_bounds(draft: &Draft, random: &mut Random) -> Option<Neighbours> {
     accepted(near, over)
 }
 
-/// The sum would wrap to a position below T.
-fn position_sum(draft: &Draft, _: &mut Random) -> Option<Neighbours> {
+/// All times are equal, by deltas of 0: first and last are that time, or not.
+fn equal_times(draft: &Draft, random: &mut Random) -> Option<Neighbours> {
+    let m = random.within(2, 6) as usize;
+    let low = random.pick(&[1, 100, 0x7FFF_FFFF, 0xFFFF_FFFE]);
+    let positions = small_deltas(random, 4, m);
+    let mut times = vec![0; m];
+    times[0] = low;
+    let near = with_times(draft, low, low, &positions, &times);
+    let over = match random.below(3) {
+        0 => with_times(draft, low + 1, low + 1, &positions, &times),
+        1 => with_times(draft, low - 1, low - 1, &positions, &times),
+        _ => {
+            times[1 + random.below(m - 1)] = 1;
+            with_times(draft, low, low, &positions, &times)
+        }
+    };
+    accepted(near, over)
+}
+
+/// Each time is tested, though its entry decides for no change: below first one that shares the position
+/// 4 with later ones, and above last one that lies behind all changes.
+fn undeciding_time(draft: &Draft, random: &mut Random) -> Option<Neighbours> {
+    let m = random.within(2, 6) as usize;
+    let low = random.pick(&[1, 100, 0x7FFF_FFFF]);
+    let mut positions = vec![0; m];
+    positions[0] = 4;
+    let mut times = small_deltas(random, low, m);
+    times[m - 1] = 1;
+    let top: u32 = times.iter().sum();
+    if random.chance(1, 2) {
+        let first = random.within(u64::from(low) + 1, top.into()) as u32;
+        return accepted(
+            with_times(draft, low, top, &positions, &times),
+            with_times(draft, first, top, &positions, &times),
+        );
+    }
+    // A change has two bytes or more, so none starts at T - 1, where all but the first entry lie.
+    positions[1] = (draft.end() + 12 + 8 * m) as u32 - 5;
+    let last = random.within(low.into(), u64::from(top) - 1) as u32;
     accepted(
-        with_times(draft, 0, 9, &[6, 1, 1], &[0, 1, 1]),
-        with_times(draft, 0, 9, &[6, 0xFFFF_FFFF, 1], &[0, 1, 1]),
+        with_times(draft, low, top, &positions, &times),
+        with_times(draft, low, last, &positions, &times),
+    )
+}
+
+/// Two deltas, with up to two zeros behind each.
+fn with_zeros(random: &mut Random) -> impl Fn(u32, u32) -> Vec<u32> {
+    let (between, behind) = (random.below(3), random.below(3));
+    move |first, second| {
+        let (between, behind) = (vec![0; between], vec![0; behind]);
+        [&[first][..], &between, &[second], &behind].concat()
+    }
+}
+
+/// The sum would wrap to a position below T.
+fn position_sum(draft: &Draft, random: &mut Random) -> Option<Neighbours> {
+    let positions = with_zeros(random);
+    let times = small_deltas(random, 0, positions(6, 1).len());
+    accepted(
+        with_times(draft, 0, 9, &positions(6, 1), &times),
+        with_times(draft, 0, 9, &positions(6, 0xFFFF_FFFF), &times),
     )
 }
 
 fn time_sum(draft: &Draft, random: &mut Random) -> Option<Neighbours> {
     let last = 0xFFFF_FFFF;
     let step = random.pick(&[1, 0x8000_0000, 0xFFFF_FFFE]);
+    let times = with_zeros(random);
+    let positions = small_deltas(random, 4, times(0, 0).len());
     accepted(
-        with_times(draft, 0, last, &[4, 1], &[last - step, step]),
-        with_times(draft, 0, last, &[4, 1], &[last - step + 1, step]),
+        with_times(draft, 0, last, &positions, &times(last - step, step)),
+        with_times(draft, 0, last, &positions, &times(last - step + 1, step)),
     )
 }
 

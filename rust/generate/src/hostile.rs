@@ -163,16 +163,41 @@ fn root_on_each_change(total: usize, roots: usize) -> Vec<u8> {
     draft.bytes()
 }
 
-/// The draft of the tables with other times.
-fn with_times(geometry: &[Geometry], first: u32, last: u32, deltas: &[(u32, u32)]) -> Draft {
-    let mut draft = tables(geometry);
+/// Gives a draft other times, behind all that it has.
+fn append_times(draft: &mut Draft, first: u32, last: u32, deltas: &[(u32, u32)]) {
     let mut words = vec![deltas.len() as u32, first, last];
     words.extend(deltas.iter().map(|(position, _)| *position));
     words.extend(deltas.iter().map(|(_, time)| *time));
     let start = draft.append_words(&words);
     draft.set_item(0x06, start as u32);
+}
+
+/// The draft of the tables with other times.
+fn with_times(geometry: &[Geometry], first: u32, last: u32, deltas: &[(u32, u32)]) -> Draft {
+    let mut draft = tables(geometry);
+    append_times(&mut draft, first, last, deltas);
     draft.set_item(0x01, 4);
     draft
+}
+
+/// A first entry and `more` that repeat a step.
+fn steps(first: (u32, u32), more: usize, step: (u32, u32)) -> Vec<(u32, u32)> {
+    let mut deltas = vec![first];
+    deltas.extend(vec![step; more]);
+    deltas
+}
+
+/// Three changes of one root, and `count` time entries of rising times at one position: that of a change,
+/// or behind all of them.
+fn shared_position(count: usize, place: usize) -> Vec<u8> {
+    let mut draft = tables(&[bits(1)]);
+    let changes: Vec<usize> = (3..6)
+        .map(|command| draft.append_change(0, command, 1, &[]))
+        .collect();
+    let position = changes.get(place).map_or(draft.end() - 1, |offset| *offset);
+    let deltas = steps((position as u32, 0), count - 1, (0, 1));
+    append_times(&mut draft, 0, count as u32, &deltas);
+    draft.bytes()
 }
 
 /// Pads a draft before END up to a file of `total` bytes.
@@ -356,6 +381,30 @@ pub fn hostile() -> Vec<Case> {
             vec![(4, 0), (1, 0xFFFF_FFFF), (1, 0xFFFF_FFFF), (1, 0xFFFF_FFFF)],
             Err(13),
         ),
+        (
+            "positions wrap below T behind zeros",
+            9,
+            vec![(8, 0), (0, 0), (0xFFFF_FFFC, 1), (0, 0)],
+            Err(13),
+        ),
+        (
+            "times wrap at one position",
+            9,
+            vec![(4, 8), (0, 0), (0, 0xFFFF_FFFF)],
+            Err(13),
+        ),
+        (
+            "times stay at 2^32 - 1",
+            0xFFFF_FFFF,
+            vec![(4, 0xFFFF_FFFF), (0, 0), (1, 0), (0, 0)],
+            Ok(()),
+        ),
+        (
+            "times reach 2^32 behind zeros",
+            0xFFFF_FFFF,
+            vec![(4, 0xFFFF_FFFF), (0, 0), (1, 0), (0, 1)],
+            Err(13),
+        ),
     ] {
         cases.push(case(
             origin,
@@ -481,8 +530,7 @@ pub fn hostile() -> Vec<Case> {
         draft.add_nearest_b4(tags[number as usize % 6], number);
     }
     cases.push(case("26,000 items", draft.bytes(), Ok(())));
-    let mut entries = vec![(4, 0)];
-    entries.extend(vec![(1, 1); 8_000]);
+    let entries = steps((4, 0), 8_000, (1, 1));
     cases.push(case(
         "8,001 time entries",
         with_times(&one, 0, 8_000, &entries).bytes(),
@@ -493,6 +541,84 @@ pub fn hostile() -> Vec<Case> {
         with_times(&one, 0, 7_999, &entries).bytes(),
         Err(13),
     ));
+
+    // Many time entries by deltas of 0: first and last, the first entry, and all further ones.
+    for (origin, bounds, first, step, expected) in [
+        ("at one position", (0, 8_000), (4, 0), (0, 1), Ok(())),
+        (
+            "at one position, the last too late",
+            (0, 7_999),
+            (4, 0),
+            (0, 1),
+            Err(13),
+        ),
+        (
+            "at one position, the first too early",
+            (1, 8_000),
+            (4, 0),
+            (0, 1),
+            Err(13),
+        ),
+        (
+            "at one position, only the last not too early",
+            (8_000, 8_000),
+            (4, 0),
+            (0, 1),
+            Err(13),
+        ),
+        ("at position 3", (0, 8_000), (3, 0), (0, 1), Err(13)),
+        ("at position 0", (0, 8_000), (0, 0), (0, 1), Err(13)),
+        ("of one time", (7, 7), (4, 7), (1, 0), Ok(())),
+        ("of one time, too late", (6, 6), (4, 7), (1, 0), Err(13)),
+        ("that are equal", (0, 0), (4, 0), (0, 0), Ok(())),
+        (
+            "that are equal, too early",
+            (1, 8_000),
+            (4, 0),
+            (0, 0),
+            Err(13),
+        ),
+        ("of zeros alone", (0, 0), (0, 0), (0, 0), Err(13)),
+    ] {
+        cases.push(case(
+            format!("8,001 time entries {origin}"),
+            with_times(&one, bounds.0, bounds.1, &steps(first, 8_000, step)).bytes(),
+            expected,
+        ));
+    }
+    for (origin, last, expected) in [
+        ("a position that wraps", (0xFFFF_FFFF, 0), Err(13)),
+        ("a time that wraps", (0, 0xFFFF_FFFF), Err(13)),
+        ("the next position and time", (1, 1), Ok(())),
+    ] {
+        let mut entries = steps((6, 5), 8_000, (0, 0));
+        entries.push(last);
+        cases.push(case(
+            format!("8,001 equal time entries, then {origin}"),
+            with_times(&one, 0, 6, &entries).bytes(),
+            expected,
+        ));
+    }
+    // 40 entries at each of 200 positions.
+    let groups = (0..8_000).map(|entry| match entry {
+        0 => (4, 0),
+        _ => (u32::from(entry % 40 == 0), u32::from(entry % 3 == 0)),
+    });
+    cases.push(case(
+        "40 time entries at each of 200 positions",
+        with_times(&one, 0, 8_000, &Vec::from_iter(groups)).bytes(),
+        Ok(()),
+    ));
+    for (place, origin) in ["the first", "the second", "the third", "none"]
+        .into_iter()
+        .enumerate()
+    {
+        cases.push(case(
+            format!("1,500 time entries at {origin} of three changes"),
+            shared_position(1_500, place),
+            Ok(()),
+        ));
+    }
 
     // The small program's limit.
     let small = tables(&one);
@@ -506,6 +632,7 @@ pub fn hostile_large() -> Vec<Case> {
     let mut random = Random::new(16);
     let base = valid_of(&mut random, &Shape::SMALL);
     let texts = text_chain(LONGEST, 4_096, None, true);
+    let shared = steps((4, 0), 1_999_999, (0, 1));
     vec![
         case("16,777,215 bytes", padded(&base, LONGEST - 1), Ok(())),
         case("16,777,216 bytes", padded(&base, LONGEST), Ok(())),
@@ -521,6 +648,16 @@ pub fn hostile_large() -> Vec<Case> {
             "no data, 4,096 roots of one width",
             flash_chain(LONGEST, &vec![bits(9); 4_096]),
             Err(17),
+        ),
+        case(
+            "2,000,000 time entries at one position",
+            with_times(&[bits(1)], 0, 1_999_999, &shared).bytes(),
+            Ok(()),
+        ),
+        case(
+            "2,000,000 time entries at one position, the first too early",
+            with_times(&[bits(1)], 1, 1_999_999, &shared).bytes(),
+            Err(13),
         ),
     ]
 }

@@ -592,36 +592,18 @@ fn lay_geometry(
     }
 }
 
-/// The times: m positions, of changes or elsewhere, and m times.
+/// The times: m positions, of changes or elsewhere, and m times. In some tables both rise; in the others
+/// positions, times or both repeat.
 fn fill_times(random: &mut Random, draft: &mut Draft, m: usize) {
-    let end = draft.end();
-    let mut positions = BTreeSet::new();
-    while positions.len() < m {
-        positions.insert(match draft.changes.is_empty() || random.chance(1, 3) {
-            true => random.within(4, end as u64 - 1),
-            false => draft.changes[random.below(draft.changes.len())].offset as u64,
-        });
-        // A few changes may not give enough different positions.
-        if random.chance(1, 4) {
-            positions.insert(random.within(4, end as u64 - 1));
-        }
-        while positions.len() > m {
-            positions.pop_last();
-        }
-    }
-    let span = random.pick(&[3 * m as u64, 3 * m as u64, 1_000 * m as u64, 0xFFFF_FFFF]);
-    let mut times = BTreeSet::new();
-    if m > 0 && random.chance(1, 4) {
-        times.insert(0);
-    }
-    if m > 1 && random.chance(1, 8) {
-        times.insert(0xFFFF_FFFF);
-    }
-    while times.len() < m {
-        times.insert(random.within(0, span));
-    }
-    let positions: Vec<u64> = positions.into_iter().collect();
-    let times: Vec<u64> = times.into_iter().collect();
+    let (tied, equal) = random.pick(&[
+        (false, false),
+        (false, false),
+        (true, false),
+        (false, true),
+        (true, true),
+    ]);
+    let positions = positions(random, draft, m, tied);
+    let times = times(random, m, equal);
     let (first, last) = match (times.first(), times.last()) {
         (Some(first), Some(last)) => (
             match random.chance(1, 2) {
@@ -647,6 +629,7 @@ fn fill_times(random: &mut Random, draft: &mut Draft, m: usize) {
     for (place, word) in words.iter().enumerate() {
         draft.set_word(at + 4 * place, *word);
     }
+    // Of equal positions the last in the table decides, and before all of them entry 0 itself.
     for change in &mut draft.changes {
         let entry = positions
             .iter()
@@ -654,6 +637,83 @@ fn fill_times(random: &mut Random, draft: &mut Draft, m: usize) {
             .unwrap_or(0);
         change.time = times[entry] as u32;
     }
+}
+
+/// How many different numbers a list of m has: fewer where some repeat.
+fn different(random: &mut Random, m: usize, repeat: bool) -> usize {
+    match repeat && m > 1 {
+        true => random.within(1, m as u64 - 1) as usize,
+        false => m,
+    }
+}
+
+/// m numbers that never fall: each of a set of at most m, the others repeat its first, its last, one or
+/// any of it.
+fn repeated(random: &mut Random, numbers: BTreeSet<u64>, m: usize) -> Vec<u64> {
+    let mut list: Vec<u64> = numbers.into_iter().collect();
+    let count = list.len();
+    let place = random.below(count.max(1));
+    let style = random.below(4);
+    while list.len() < m {
+        let repeated = match style {
+            0 => 0,
+            1 => count - 1,
+            2 => place,
+            _ => random.below(count),
+        };
+        list.push(list[repeated]);
+    }
+    list.sort_unstable();
+    list
+}
+
+fn positions(random: &mut Random, draft: &Draft, m: usize, tied: bool) -> Vec<u64> {
+    let end = draft.end() as u64;
+    let mut count = different(random, m, tied);
+    let mut positions = BTreeSet::new();
+    // Above all changes, so that entry 0 decides for each of them. The newest has two bytes or more.
+    let above = draft.changes.last().map_or(4, |it| it.offset as u64 + 1);
+    let room = (end - above) as usize;
+    let behind_all = random.chance(1, 5) && (tied || count <= room);
+    if behind_all {
+        count = count.min(room);
+    } else if m > 0 && random.chance(1, 5) {
+        positions.insert(4);
+    }
+    while positions.len() < count {
+        if behind_all {
+            positions.insert(random.within(above, end - 1));
+            continue;
+        }
+        positions.insert(match draft.changes.is_empty() || random.chance(1, 3) {
+            true => random.within(4, end - 1),
+            false => draft.changes[random.below(draft.changes.len())].offset as u64,
+        });
+        // A few changes may not give enough different positions.
+        if random.chance(1, 4) {
+            positions.insert(random.within(4, end - 1));
+        }
+        while positions.len() > count {
+            positions.pop_last();
+        }
+    }
+    repeated(random, positions, m)
+}
+
+fn times(random: &mut Random, m: usize, equal: bool) -> Vec<u64> {
+    let count = different(random, m, equal);
+    let span = random.pick(&[3 * m as u64, 3 * m as u64, 1_000 * m as u64, 0xFFFF_FFFF]);
+    let mut times = BTreeSet::new();
+    if m > 0 && random.chance(1, 4) {
+        times.insert(0);
+    }
+    if m > 1 && random.chance(1, 8) {
+        times.insert(0xFFFF_FFFF);
+    }
+    while times.len() < count {
+        times.insert(random.within(0, span));
+    }
+    repeated(random, times, m)
 }
 
 /// The section list in any order, with items that are skipped and items that don't count.

@@ -1,5 +1,7 @@
 //! The generator, checked with the reference reader.
 
+use std::collections::BTreeMap;
+
 use lxt_generate::*;
 use lxt_reference as reader;
 
@@ -377,6 +379,175 @@ fn dirty_files_reach_every_refusal_of_changes() {
     }
 }
 
+/// The deltas of a table of times: of the positions, and of the times.
+fn deltas(draft: &Draft) -> [Vec<u32>; 2] {
+    let m = draft.entries() as usize;
+    let at = draft.start(0x06) + 12;
+    [at, at + 4 * m].map(|at| (0..m).map(|entry| draft.word(at + 4 * entry)).collect())
+}
+
+/// Whether two entries share a position, and whether two have one time.
+fn zeros(draft: &Draft) -> [bool; 2] {
+    deltas(draft).map(|deltas| deltas.iter().skip(1).any(|delta| *delta == 0))
+}
+
+/// Tables of times rise, or positions, times or both repeat: at every place, in runs, and so that it shows
+/// in the times of changes.
+#[test]
+fn entries_that_share_a_position_or_a_time() {
+    let mut seen: BTreeMap<&str, u32> = BTreeMap::new();
+    for seed in 0..3_000 {
+        let draft = valid(seed);
+        let bytes = draft.bytes();
+        let judged = reader::Judged::new(&bytes).expect("a valid trace");
+        let entries = judged.entries();
+        let (Some(lowest), Some(highest)) = (entries.first(), entries.last()) else {
+            continue;
+        };
+        let mut meet = |what, met: bool| *seen.entry(what).or_default() += u32::from(met);
+        let [tied, equal] = zeros(&draft);
+        let several = entries.len() > 1;
+        meet("rising", several && !tied && !equal);
+        meet("shared positions, rising times", tied && !equal);
+        meet("rising positions, equal times", !tied && equal);
+        meet("shared positions and equal times", tied && equal);
+
+        let shared = |count: usize, part: fn(&(u32, u32)) -> u32| {
+            let mut runs = entries.windows(count);
+            runs.any(|run| part(&run[0]) == part(&run[count - 1]))
+        };
+        meet("one position three times", shared(3, |entry| entry.0));
+        meet("one position six times", shared(6, |entry| entry.0));
+        meet("one time three times", shared(3, |entry| entry.1));
+        meet("one time six times", shared(6, |entry| entry.1));
+        let twice = entries.windows(2).any(|pair| pair[0] == pair[1]);
+        meet("an entry twice", twice);
+        let same = entries.iter().all(|entry| entry == lowest);
+        meet("all entries equal", several && same);
+        let at = |position: u32| entries.iter().filter(|entry| entry.0 == position).count();
+        let first = draft.word(draft.start(0x06) + 4);
+        let last = draft.word(draft.start(0x06) + 8);
+        let of_time = |time: u32| entries.iter().filter(|entry| entry.1 == time).count();
+        meet("shared first position", at(lowest.0) > 1);
+        meet("shared last position", at(highest.0) > 1);
+        meet("one position", several && at(lowest.0) == entries.len());
+        meet("one time", several && of_time(lowest.1) == entries.len());
+        meet("equal times of first", of_time(first) > 1);
+        meet("equal times of last", of_time(last) > 1);
+        meet("first position 4", lowest.0 == 4);
+        meet("shared first position 4", lowest.0 == 4 && at(4) > 1);
+        meet("last position T - 1", highest.0 == draft.end() as u32 - 1);
+
+        let offsets = draft.changes.iter().map(|change| change.offset as u32);
+        let offsets = Vec::from_iter(offsets);
+        let behind = offsets.last().is_some_and(|newest| lowest.0 > *newest);
+        meet("first position behind all changes", behind);
+        meet("shared position behind all changes", behind && tied);
+        let at_change = |count| offsets.iter().any(|offset| at(*offset) >= count);
+        meet("shared position of a change", at_change(2));
+        meet("position of a change three times", at_change(3));
+
+        // Changes whose time another entry of the position would show as another.
+        for change in &draft.changes {
+            let offset = change.offset as u32;
+            let before = entries.iter().filter(|entry| entry.0 <= offset).count();
+            let deciding = entries[before.max(1) - 1];
+            assert_eq!(change.time, deciding.1, "seed {seed}");
+            let others = entries.iter().filter(|entry| entry.0 == deciding.0);
+            let other = others.clone().any(|entry| entry.1 != deciding.1);
+            let there = deciding.0 == offset;
+            meet("changes: the last decides", before > 0 && other);
+            meet(
+                "changes: the last decides, there",
+                before > 0 && other && there,
+            );
+            meet(
+                "changes: the last decides, further on",
+                before > 0 && other && !there,
+            );
+            meet(
+                "changes: the last of three decides",
+                before > 0 && other && others.count() > 2,
+            );
+            meet("changes: entry 0 decides", before == 0 && other);
+            meet(
+                "changes: before a position of its own",
+                before == 0 && !other,
+            );
+        }
+    }
+    for (what, count) in &seen {
+        println!("{count:7} {what}");
+    }
+    assert_eq!(seen.len(), 29);
+    for (what, count) in seen {
+        let least = match what.starts_with("changes") {
+            true => 300,
+            false => 60,
+        };
+        assert!(count >= least, "{what}: {count}");
+    }
+}
+
+/// Zero deltas stand on both sides of the time rules: accepted, and refused by another rule.
+#[test]
+fn zero_deltas_on_both_sides() {
+    let names = [
+        "first position below 4, then zeros",
+        "position T",
+        "equal times before first or after last",
+        "time of an entry that never decides",
+        "position sum past 2^32",
+        "time sum past 2^32",
+    ];
+    for name in names {
+        let damage = DAMAGES.iter().find(|damage| damage.name == name);
+        let damage = damage.expect("a damage of that name");
+        // Shared positions and equal times, on the one side and on the other.
+        let mut counts = [[0; 2]; 2];
+        for seed in 0..200 {
+            let mut random = Random::new(seed);
+            let base = valid(seed);
+            let Some(neighbours) = (damage.apply)(&base, &mut random) else {
+                continue;
+            };
+            assert_eq!(answer(&neighbours.near.bytes()), Ok(()), "{name}");
+            assert_eq!(answer(&neighbours.over.bytes()), Err(13), "{name}");
+            let sides = [&neighbours.near, &neighbours.over];
+            for (counts, draft) in counts.iter_mut().zip(sides) {
+                for (count, met) in counts.iter_mut().zip(zeros(draft)) {
+                    *count += u32::from(met);
+                }
+            }
+        }
+        println!("{name}: accepted {:?}, refused {:?}", counts[0], counts[1]);
+        assert!(counts.iter().flatten().all(|count| *count >= 40), "{name}");
+    }
+}
+
+/// Each rule behind the times is broken in files with zero deltas, and in files without.
+#[test]
+fn zero_deltas_in_files_of_every_later_refusal() {
+    for damage in DAMAGES.iter().filter(|it| it.number >= 14) {
+        let mut counts = [0; 2];
+        for seed in 0..600 {
+            let mut random = Random::new(seed + 1);
+            let base = valid(seed);
+            if base.end() > 20_000 {
+                continue;
+            }
+            let Some(neighbours) = (damage.apply)(&base, &mut random) else {
+                continue;
+            };
+            assert_eq!(answer(&neighbours.over.bytes()), Err(damage.number));
+            counts[usize::from(zeros(&neighbours.over).contains(&true))] += 1;
+        }
+        println!("{} {:45} {counts:?}", damage.number, damage.name);
+        let enough = counts.iter().all(|count| *count >= 10);
+        assert!(enough, "{}: {counts:?}", damage.name);
+    }
+}
+
 /// Dense chains come to every answer that chains can have.
 #[test]
 fn dense_chains() {
@@ -446,6 +617,21 @@ fn hostile_files_are_judged() {
             .collect();
         assert_eq!(of_kind.len(), count);
         assert!(of_kind.iter().all(|case| case.bytes.len() == 65_536));
+    }
+    // Large tables of zero deltas, accepted and refused.
+    for (start, accepted, refused) in [
+        ("8,001 time entries at", 1, 5),
+        ("8,001 time entries of one time", 1, 1),
+        ("8,001 time entries that are equal", 1, 1),
+        ("8,001 equal time entries", 1, 2),
+        ("40 time entries at each", 1, 0),
+        ("1,500 time entries at", 4, 0),
+    ] {
+        let of_kind = cases.iter().filter(|case| case.origin.starts_with(start));
+        let answers = Vec::from_iter(of_kind.map(|case| case.expected));
+        let count = |answer| answers.iter().filter(|it| **it == Some(answer)).count();
+        let counts = (count(Ok(())), count(Err(13)));
+        assert_eq!(counts, (accepted, refused), "{start}");
     }
 }
 

@@ -8,6 +8,12 @@ use std::path::{Path, PathBuf};
 use std::process::{Command, Stdio};
 use std::thread;
 
+use lxt_compare::times::Entries;
+use lxt_reference::Judged;
+
+#[allow(dead_code)]
+mod tied;
+
 /// The longest trace that the program reads.
 const LONGEST: usize = 65_536;
 
@@ -72,6 +78,15 @@ fn prints_the_expected_output_of_every_trace() {
 }
 
 #[test]
+fn prints_the_examples_of_zero_deltas() {
+    for example in tied::EXAMPLES {
+        let printed = printed(&example.file());
+        let printed = String::from_utf8(printed).expect("text");
+        assert_eq!(printed, example.lines(), "2-{}", example.letter);
+    }
+}
+
+#[test]
 fn refuses_one_byte_more_than_the_limit() {
     let file = fs::read(repository().join("traces/lxtgen_big_1.lxt")).expect("a trace");
     for length in [LONGEST - 1, LONGEST, LONGEST + 1, LONGEST + 2, 4 * LONGEST] {
@@ -86,11 +101,13 @@ fn refuses_one_byte_more_than_the_limit() {
 
 #[test]
 fn prints_what_the_independent_reader_prints_of_generated_files() {
-    let (mut seen, mut dirty) = (BTreeMap::new(), 0);
+    let (mut seen, mut dirty, mut shared) = (BTreeMap::new(), 0, 0);
     for seed in 0..4_000 {
         let case = lxt_generate::case(seed);
-        let judged = lxt_reference::judge(&case.bytes);
-        dirty += u32::from(judged.is_ok_and(|it| !it.clean));
+        if let Ok(judged) = Judged::new(&case.bytes) {
+            dirty += u32::from(!judged.summary().clean);
+            shared += u32::from(Entries::of(&judged).share_position());
+        }
         compare(
             &case.bytes,
             &format!("seed {seed}, {}", case.origin),
@@ -101,8 +118,8 @@ fn prints_what_the_independent_reader_prints_of_generated_files() {
     for number in (0..=17).filter(|number| *number != 9) {
         assert!(seen.contains_key(&number), "{number}: {seen:?}");
     }
-    // Rubbish in the padding, which is not printed.
-    assert!(dirty >= 200, "{dirty}");
+    // Rubbish in the padding, which is not printed, and time entries at one position.
+    assert!(dirty >= 200 && shared >= 200, "{dirty} {shared}");
 }
 
 #[test]

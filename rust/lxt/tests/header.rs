@@ -183,6 +183,13 @@ fn repository() -> PathBuf {
     Path::new(env!("CARGO_MANIFEST_DIR")).join("../..")
 }
 
+/// The archive of proved functions, in the folder that the crate's build script links it from.
+fn archive() -> PathBuf {
+    let folder = std::env::var_os("LXT_ARCHIVE_DIR").map(PathBuf::from);
+    let folder = folder.unwrap_or_else(|| repository().join("target/staticlib"));
+    folder.join("liblxt_c.a")
+}
+
 /// Makes a program of a source with the header and the archive.
 fn made(name: &str, compiler: &str, standard: &str, code: &str) -> PathBuf {
     let folder = PathBuf::from(env!("CARGO_TARGET_TMPDIR"));
@@ -195,7 +202,7 @@ fn made(name: &str, compiler: &str, standard: &str, code: &str) -> PathBuf {
         .arg("-I")
         .arg(repository().join("include"))
         .arg(&source)
-        .arg(repository().join("target/staticlib/liblxt_c.a"))
+        .arg(archive())
         .arg("-o")
         .arg(&program)
         .output()
@@ -376,7 +383,7 @@ fn a_null_pointer_with_length_0_is_an_empty_slice() {
 
 #[test]
 fn the_archive_needs_memcpy_and_memset_alone() {
-    let archive = repository().join("target/staticlib/liblxt_c.a");
+    let archive = archive();
     let symbols = |word: &str| {
         let listed = Command::new("nm").arg(word).arg(&archive).output();
         let listed = listed.expect("nm, which comes with the linker");

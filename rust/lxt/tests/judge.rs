@@ -51,6 +51,8 @@ fn all_traces_of_the_folder() {
     }
     println!("{seen:?}");
     assert!(seen.answers[&0] >= 20, "{seen:?}");
+    // One has two time entries at one position.
+    assert!(seen.times.shared >= 1, "{seen:?}");
 }
 
 #[test]
@@ -77,6 +79,10 @@ fn generated_files_reach_every_refusal_of_a_file() {
     for clean in [true, false] {
         assert!(seen.padding[&clean] >= 500, "{seen:?}");
     }
+    let times = seen.times;
+    for count in [times.rising, times.shared, times.equal] {
+        assert!(count >= 1_000, "{seen:?}");
+    }
 }
 
 #[test]
@@ -86,4 +92,5 @@ fn hostile_files_are_judged_alike() {
         compare(&case.bytes, &case.origin, &mut seen);
     }
     println!("{seen:?}");
+    assert!(seen.times.shared >= 5, "{seen:?}");
 }

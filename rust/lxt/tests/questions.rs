@@ -107,6 +107,8 @@ fn generated_files() {
     }
     assert!(seen.count("change", "refused", 19) >= 500);
     assert!(seen.count("change", "refused", 21) >= 500);
+    // Answers that show which of several entries at one position decides.
+    assert!(seen.shared().iter().all(|count| *count >= 500));
 }
 
 #[test]
@@ -122,4 +124,5 @@ fn hostile_files() {
         }
     }
     seen.report("hostile");
+    assert!(seen.shared().iter().all(|count| *count > 0));
 }

@@ -1,5 +1,5 @@
-//! Which refusals the compared calls give: every one that a call can give, and no other; and that padding
-//! is both clean and dirty.
+//! Which refusals the compared calls give: every one that a call can give, and no other; that padding is
+//! both clean and dirty, and that zero deltas of the times show.
 
 use std::collections::BTreeSet;
 
@@ -37,5 +37,9 @@ fn each_call_gives_every_refusal_that_it_can_and_no_other() {
             counts.iter().all(|count| *count >= 200),
             "{call} {counts:?}"
         );
+    }
+    for (what, count) in compared.zero_deltas() {
+        println!("{count:>13} {what}");
+        assert!(count >= 200, "{what}: {count}");
     }
 }

@@ -28,6 +28,7 @@ fn whole_walks_over_generated_files() {
     seen.report("whole walks over generated files");
     seen.least_met("whole walks", 5_000);
     seen.least_met("whole walks over dirty changes", 1_000);
+    seen.least_met("whole walks beside entries at one position", 1_000);
     seen.least_met("whole walks of several calls", 2_000);
     seen.least("start", "started", 5_000);
     seen.least("carry on", "done false", 10_000);

@@ -1,4 +1,5 @@
-//! A plain reader of LXT traces, written from the rules of paper 01 and Ask 6 of paper 02 alone.
+//! A plain reader of LXT traces, written from the rules of paper 01 and Asks 2 and 6 of paper 02
+//! alone.
 //!
 //! It exists to be compared, call by call, with another reader. So it follows the paper's order of
 //! checks, uses memory freely and judges the whole file again in every call. A refusal is its

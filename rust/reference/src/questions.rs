@@ -165,6 +165,12 @@ impl<'a> Judged<'a> {
             .collect()
     }
 
+    /// Position and time of each entry of the times, in the order of the table.
+    pub fn entries(&self) -> Vec<(u32, u32)> {
+        let entries = self.trace.times.iter();
+        entries.map(|entry| (entry.position, entry.time)).collect()
+    }
+
     /// The full list of a walk (paper 01, "The whole walk"): the chain of each root asked for,
     /// itself or by an alias, once; all pairs of root number and offset by falling offset.
     pub fn full_list(&self, asked: &[u8]) -> Result<Vec<(u32, u32)>, u8> {

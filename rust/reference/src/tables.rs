@@ -40,6 +40,7 @@ pub(crate) struct Trace<'a> {
     pub facts: Vec<Facts>,
     /// The sync entry of each facility; an alias's is never used.
     pub sync: Vec<u32>,
+    /// In the order of the table: positions never fall, and times never fall.
     pub times: Vec<Entry>,
     /// Byte i, lowest first, of every real is data byte `real_order[i]`. All 0 where no root is of
     /// kind real.
@@ -56,9 +57,11 @@ impl Trace<'_> {
         self.roots[facility] == facility
     }
 
-    /// The time of a change at `offset`: that of the last entry with position <= offset, or of
-    /// entry 0 where none is.
+    /// The time of a change at `offset`: that of the last entry with position <= offset, so of
+    /// several at one position the last in the table; or of entry 0 itself where none is, whatever
+    /// entries share its position.
     pub fn time(&self, offset: u32) -> u32 {
+        // Positions never fall, so these entries are the first of the table.
         let not_later = self.times.partition_point(|entry| entry.position <= offset);
         self.times[not_later.max(1) - 1].time
     }
@@ -344,7 +347,9 @@ fn root_facts(geometry: &[Geometry], roots: &[usize]) -> Vec<Facts> {
     facts
 }
 
-/// 13: the time rules. Positions and times are running sums of the deltas, as plain numbers.
+/// 13: the time rules. Positions and times are running sums of the deltas, as plain numbers. Every
+/// delta may be 0 but that of the first position (Ask 2). Each entry is tested, also one that decides
+/// the time of no change.
 fn read_times(
     file: &[u8],
     end: usize,
@@ -363,11 +368,9 @@ fn read_times(
     for number in 0..m {
         let position_delta = u64::from(word(file, start + 12 + 4 * number));
         let time_delta = u64::from(word(file, start + 12 + 4 * m + 4 * number));
-        if number > 0 && (position_delta == 0 || time_delta == 0) {
-            return Err(13);
-        }
         position += position_delta;
         time += time_delta;
+        // Positions never fall, so a position below 4 is the first one or follows such a one.
         if position < 4 || position >= end as u64 || time < first || time > last {
             return Err(13);
         }

@@ -4,11 +4,18 @@ use crate::*;
 
 /// The 95-byte trace of paper 01.
 fn small_trace() -> Vec<u8> {
+    small_trace_with(0, &[4, 2], &[0, 5])
+}
+
+/// The same with other times: first, position deltas and time deltas; last is 5. The times stand
+/// before END, which moves with their number.
+fn small_trace_with(first: u32, positions: &[u32], times: &[u32]) -> Vec<u8> {
     let mut file = vec![0x01, 0x38, 0x00, 0x04, 0x04, 0x02, 0x03, 0x00];
     file.extend([0, 0, 0, 1, 0, 0, 0, 2, 0, 0, 0x61, 0]);
     file.extend([0; 16]);
     file.extend([0, 0, 0, 6]);
-    for word in [2_u32, 0, 5, 4, 2, 0, 5] {
+    let head = [positions.len() as u32, first, 5];
+    for word in head.iter().chain(positions).chain(times) {
         file.extend(word.to_be_bytes());
     }
     file.push(0);
@@ -1029,8 +1036,9 @@ fn time_rules() {
     assert_eq!(answer(&[3], &[0], 0, 0), Err(13));
     assert_eq!(answer(&[0], &[0], 0, 0), Err(13));
     assert_eq!(answer(&[4, 1], &[0, 1], 0, 1), Ok(()));
-    assert_eq!(answer(&[4, 0], &[0, 1], 0, 1), Err(13));
-    assert_eq!(answer(&[4, 1], &[0, 0], 0, 1), Err(13));
+    assert_eq!(answer(&[4, 0], &[0, 1], 0, 1), Ok(()));
+    assert_eq!(answer(&[4, 1], &[0, 0], 0, 1), Ok(()));
+    assert_eq!(answer(&[4, 0], &[0, 0], 0, 1), Ok(()));
     // first <= each time <= last
     assert_eq!(answer(&[4], &[7], 7, 7), Ok(()));
     assert_eq!(answer(&[4], &[7], 8, 8), Err(13));
@@ -1063,6 +1071,217 @@ fn the_time_of_a_change() {
     assert_eq!(symbol_at(&file, 20), b'0');
     assert_eq!(symbol_at(&file, 29), b'0');
     assert_eq!(symbol_at(&file, 30), b'1');
+}
+
+// ---- Zero deltas (Ask 2) ----
+
+#[test]
+fn examples_2_a_to_2_i() {
+    // Position deltas, time deltas and first; the lines of the changes and the symbols at the times
+    // 0 to 6, or none where refused.
+    type Example = (
+        &'static [u32],
+        &'static [u32],
+        u32,
+        Option<([&'static str; 2], &'static [u8; 7])>,
+    );
+    let examples: [Example; 9] = [
+        (
+            &[4, 0],
+            &[0, 5],
+            0,
+            Some((["0 6 5 0", "0 4 5 1"], b"XXXXX00")),
+        ),
+        (
+            &[5, 0],
+            &[1, 4],
+            0,
+            Some((["0 6 5 0", "0 4 1 1"], b"X111100")),
+        ),
+        (
+            &[6, 0, 0],
+            &[1, 1, 1],
+            0,
+            Some((["0 6 3 0", "0 4 1 1"], b"X110000")),
+        ),
+        (
+            &[4, 2],
+            &[5, 0],
+            0,
+            Some((["0 6 5 0", "0 4 5 1"], b"XXXXX00")),
+        ),
+        (
+            &[4, 2, 0],
+            &[0, 5, 0],
+            0,
+            Some((["0 6 5 0", "0 4 0 1"], b"1111100")),
+        ),
+        (&[0, 4], &[0, 5], 0, None),
+        (&[3, 0], &[0, 5], 0, None),
+        (&[4, 0], &[0, 5], 1, None),
+        (
+            &[67, 0],
+            &[0, 5],
+            0,
+            Some((["0 6 0 0", "0 4 0 1"], b"0000000")),
+        ),
+    ];
+    for ((positions, times, first, expected), letter) in examples.into_iter().zip('A'..) {
+        let file = small_trace_with(first, positions, times);
+        assert_eq!(file.len(), 79 + 8 * positions.len(), "2-{letter}");
+        let printed = String::from_utf8(dump(&file)).expect("text");
+        let Some((changes, symbols)) = expected else {
+            assert_eq!(printed, "refused 13\n", "2-{letter}");
+            assert_eq!(judge(&file), Err(13), "2-{letter}");
+            assert_eq!(change(&file, 0, 6, &mut [0]), Err(13), "2-{letter}");
+            assert_eq!(value_at(&file, 0, 5, &mut [0]), Err(13), "2-{letter}");
+            let (mut numbers, mut offsets) = ([0], [6]);
+            let start = start_walk(&file, &[1], &mut numbers, &mut offsets);
+            assert_eq!(start, Err(13), "2-{letter}");
+            let carried = carry_on(&file, &mut numbers, &mut offsets, &mut [0; 2], 1);
+            assert_eq!(carried, Err(13), "2-{letter}");
+            continue;
+        };
+        let [newer, older] = changes;
+        let lines = format!("facility 0 a bits 1\nchange {newer}\nchange {older}\ndone 2\n");
+        assert_eq!(printed, lines, "2-{letter}");
+        let shown = [0, 1, 2, 3, 4, 5, 6].map(|time| symbol_at(&file, time));
+        assert_eq!(shown, *symbols, "2-{letter}");
+        assert_eq!(symbol_at(&file, u32::MAX), symbols[6], "2-{letter}");
+        let end = judge(&file).map(|summary| summary.end);
+        assert_eq!(end, Ok(52 + 8 * positions.len() as u32), "2-{letter}");
+        let list = vec![(0, 6), (0, 4)];
+        assert_eq!(walk(&file, &[1], 9), (list, true), "2-{letter}");
+        assert_eq!(walk(&file, &[1], 1), (vec![(0, 6)], false), "2-{letter}");
+    }
+}
+
+/// Changes at 4, 6, 8 and 10: 0, 1, Z and X.
+fn four_changes(positions: &[u32], times: &[u32]) -> Plan {
+    let mut made = plan(
+        &[0x03, 0x02, 0x04, 0x00, 0x05, 0x00, 0x06, 0x00],
+        &[facility("a", 0, 0, 0, 10)],
+    );
+    made.positions = positions.to_vec();
+    made.times = times.to_vec();
+    made.initial = Some(8);
+    made
+}
+
+#[test]
+fn of_equal_positions_the_last_decides_from_there_on() {
+    let times = |positions: &[u32], times: &[u32]| {
+        let file = four_changes(positions, times).file();
+        [4, 6, 8, 10].map(|offset| change(&file, 0, offset, &mut [0]).map(|read| read.time))
+    };
+    // Before the changes, at each of them, between two and behind all.
+    assert_eq!(times(&[4, 0, 0], &[1, 1, 1]), [3, 3, 3, 3].map(Ok));
+    assert_eq!(times(&[6, 0, 0], &[1, 1, 1]), [1, 3, 3, 3].map(Ok));
+    assert_eq!(times(&[7, 0, 0], &[1, 1, 1]), [1, 1, 3, 3].map(Ok));
+    assert_eq!(times(&[10, 0, 0], &[1, 1, 1]), [1, 1, 1, 3].map(Ok));
+    assert_eq!(times(&[11, 0, 0], &[1, 1, 1]), [1, 1, 1, 1].map(Ok));
+    // In the middle and at the end of a table, with others around.
+    assert_eq!(times(&[4, 2, 0, 3], &[1, 1, 1, 1]), [1, 3, 3, 4].map(Ok));
+    assert_eq!(times(&[4, 2, 4, 0], &[1, 1, 1, 1]), [1, 2, 2, 4].map(Ok));
+    assert_eq!(times(&[4, 0, 4, 0], &[1, 1, 1, 1]), [2, 2, 4, 4].map(Ok));
+    // Equal times among them, the first time delta 0 too.
+    assert_eq!(times(&[6, 0, 2, 0], &[0, 7, 0, 0]), [0, 7, 7, 7].map(Ok));
+    assert_eq!(times(&[5, 0, 0, 3], &[0, 0, 0, 0]), [0, 0, 0, 0].map(Ok));
+    // The values on either side of the times that do not count.
+    let file = four_changes(&[6, 0, 3, 0], &[1, 2, 2, 2]).file();
+    let shown = [0, 1, 2, 3, 4, 5, 6, 7, 8].map(|time| symbol_at(&file, time));
+    assert_eq!(shown, *b"-00ZZZZXX");
+    assert_eq!(
+        Judged::new(&file).map(|judged| judged.entries()),
+        Ok(vec![(6, 1), (6, 3), (9, 5), (9, 7)])
+    );
+}
+
+/// Every table of three entries at 4 to 11 with the times 0 to 2, against the words of the rule.
+#[test]
+fn all_small_tables() {
+    let mut tables = 0;
+    let rising = |least: u32, most: u32| {
+        let mut lists = Vec::new();
+        for first in least..=most {
+            for second in first..=most {
+                lists.extend((second..=most).map(|third| [first, second, third]));
+            }
+        }
+        lists
+    };
+    let deltas = |list: [u32; 3]| [list[0], list[1] - list[0], list[2] - list[1]];
+    for positions in rising(4, 11) {
+        for times in rising(0, 2) {
+            let file = four_changes(&deltas(positions), &deltas(times)).file();
+            let judged = Judged::new(&file).expect("an accepted file");
+            let time = |offset: u32| {
+                let last = (0..3).rev().find(|entry| positions[*entry] <= offset);
+                times[last.unwrap_or(0)]
+            };
+            for offset in [4, 6, 8, 10] {
+                let read = judged.change(0, offset, &mut [0]).expect("a change");
+                assert_eq!(read.time, time(offset), "{positions:?} {times:?}");
+            }
+            for at in 0..=3 {
+                let symbol = match [10, 8, 6, 4].iter().find(|offset| time(**offset) <= at) {
+                    Some(10) => b'X',
+                    Some(8) => b'Z',
+                    Some(6) => b'1',
+                    Some(_) => b'0',
+                    None => b'-',
+                };
+                let mut bits = [b'?'];
+                judged.value_at(0, at, &mut bits).expect("a value");
+                assert_eq!(bits, [symbol], "{positions:?} {times:?} {at}");
+            }
+            tables += 1;
+        }
+    }
+    assert_eq!(tables, 1_200);
+}
+
+/// What stays refused beside zero deltas, and each neighbour that is accepted.
+#[test]
+fn time_rules_beside_zero_deltas() {
+    let answer = |positions: &[u32], times: &[u32], first, last| {
+        let mut made = four_changes(positions, times);
+        (made.first, made.last) = (first, last);
+        made.judge().map(|_| ())
+    };
+    // The first position, whatever follows.
+    for below in 0..4 {
+        assert_eq!(answer(&[below, 0], &[0, 1], 0, 1), Err(13));
+        assert_eq!(answer(&[below, 0, 0, 9], &[0, 0, 0, 0], 0, 1), Err(13));
+        assert_eq!(answer(&[below, 4 - below], &[0, 1], 0, 1), Err(13));
+        assert_eq!(answer(&[4, below], &[0, 1], 0, 1), Ok(()));
+    }
+    assert_eq!(answer(&[4, 0, 0, 9], &[0, 0, 0, 0], 0, 1), Ok(()));
+    // Each time, also of an entry that never decides: the first and the middle one of a position, and
+    // the last above all changes.
+    assert_eq!(answer(&[4, 0, 0], &[3, 1, 1], 3, 5), Ok(()));
+    assert_eq!(answer(&[4, 0, 0], &[3, 1, 1], 4, 5), Err(13));
+    assert_eq!(answer(&[4, 0, 0], &[3, 0, 1], 4, 5), Err(13));
+    assert_eq!(answer(&[4, 0, 0], &[3, 1, 1], 5, 5), Err(13));
+    assert_eq!(answer(&[4, 0, 0], &[3, 1, 1], 3, 4), Err(13));
+    assert_eq!(answer(&[4, 7, 0], &[3, 1, 0], 3, 4), Ok(()));
+    assert_eq!(answer(&[4, 7, 0], &[3, 0, 1], 3, 3), Err(13));
+    // Equal times at both bounds.
+    assert_eq!(answer(&[4, 0, 3], &[7, 0, 0], 7, 7), Ok(()));
+    assert_eq!(answer(&[4, 0, 3], &[7, 0, 0], 8, 8), Err(13));
+    assert_eq!(answer(&[4, 0, 3], &[7, 0, 0], 6, 6), Err(13));
+    let most = u32::MAX;
+    assert_eq!(answer(&[4, 0, 0], &[most, 0, 0], most, most), Ok(()));
+    // Sums past 2^32 behind zeros: they never wrap.
+    assert_eq!(answer(&[4, 0, 0], &[most, 0, 1], 0, most), Err(13));
+    assert_eq!(answer(&[4, 0, 0], &[5, 0, most], 0, most), Err(13));
+    assert_eq!(answer(&[6, 0, most], &[0, 0, 0], 0, 9), Err(13));
+    assert_eq!(answer(&[6, most, 0, 0], &[0, 0, 0, 0], 0, 9), Err(13));
+    // Positions below T: the last of three entries is at T - 1, at T, or stays at T.
+    let end = four_changes(&[4; 3], &[0; 3]).make().end;
+    assert_eq!(answer(&[end - 1, 0, 0], &[0, 0, 0], 0, 0), Ok(()));
+    assert_eq!(answer(&[end - 1, 0, 1], &[0, 0, 0], 0, 0), Err(13));
+    assert_eq!(answer(&[end, 0, 0], &[0, 0, 0], 0, 0), Err(13));
 }
 
 // ---- Reals ----

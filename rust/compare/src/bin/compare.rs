@@ -50,10 +50,19 @@ fn main() {
     for (call, [clean, dirty]) in padding {
         println!("{call:>13}  padding clean {clean}, dirty {dirty}");
     }
-    // So many files have both; else the run says nothing about padding.
-    let both = padding.iter().all(|(_, counts)| !counts.contains(&0));
-    if compared.files >= 1_000 && !both {
-        eprintln!("clean and dirty padding did not both occur");
+    let zero_deltas = compared.zero_deltas();
+    for (what, count) in zero_deltas {
+        println!("{count:>13}  {what}");
+    }
+    // So many files have all of it; else the run says nothing about padding or zero deltas.
+    let mut missing = Vec::new();
+    if padding.iter().any(|(_, counts)| counts.contains(&0)) {
+        missing.push("clean and dirty padding");
+    }
+    let unmet = zero_deltas.iter().filter(|(_, count)| *count == 0);
+    missing.extend(unmet.map(|(what, _)| *what));
+    if compared.files >= 1_000 && !missing.is_empty() {
+        eprintln!("did not occur: {}", missing.join(", "));
         std::process::exit(1);
     }
 }

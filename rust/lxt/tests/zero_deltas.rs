@@ -1,0 +1,165 @@
+//! Zero deltas of the times through the C interface: which entry decides, and what stays refused.
+
+use lxt::{Change, Pair, Reading, Refusal, Trace};
+use lxt_compare::judge::TRACE;
+use lxt_compare::times::small_trace;
+
+mod tied;
+
+/// Every call refuses the file as 13 and changes nothing.
+fn refused(file: &[u8], what: &str) {
+    let no = Refusal::Times;
+    assert_eq!(lxt::judge(file), Err(no), "{what}");
+    assert_eq!(Trace::open(file).err(), Some(no), "{what}");
+    assert_eq!(lxt::facts(file, 0), Err(no), "{what}");
+    assert_eq!(lxt::root(file, 0), Err(no), "{what}");
+    assert_eq!(lxt::change_before(file, 0, 6), Err(no), "{what}");
+    let mut names = [b'?'; lxt::NAME_ROOM];
+    assert_eq!(lxt::name(file, 0, &mut names), Err(no), "{what}");
+    assert_eq!(names, [b'?'; lxt::NAME_ROOM], "{what}");
+    let mut bits = [b'?'];
+    assert_eq!(lxt::change(file, 0, 6, &mut bits), Err(no), "{what}");
+    assert_eq!(lxt::value_at(file, 0, 5, &mut bits), Err(no), "{what}");
+    assert_eq!(bits, [b'?'], "{what}");
+    // Of a walk the start, and the next call of one that was started over another file.
+    let mut record = Trace::open(&TRACE).and_then(|trace| trace.start_walk(&[true]));
+    let record = record.as_mut().expect("a start");
+    let before = record.clone();
+    assert_eq!(lxt::start_walk(file, &[1], record), Err(no), "{what}");
+    let mut output = [77; 2];
+    let carried = lxt::carry_on(file, record, 1, &mut output);
+    assert_eq!(carried, Err(no), "{what}");
+    assert_eq!((&*record, output), (&before, [77; 2]), "{what}");
+}
+
+fn bits(symbols: &str) -> Reading<'static> {
+    Reading::Bits(symbols.into())
+}
+
+#[test]
+fn examples_2_a_to_2_i() {
+    assert_eq!(small_trace(0, &[4, 2], &[0, 5]), TRACE);
+    for example in tied::EXAMPLES {
+        let file = example.file();
+        let what = format!("2-{}", example.letter);
+        let printed = lxt_reference::dump(&file);
+        assert_eq!(String::from_utf8_lossy(&printed), example.lines(), "{what}");
+        let Some(answer) = &example.answer else {
+            refused(&file, &what);
+            continue;
+        };
+        let trace = Trace::open(&file).expect("an accepted trace");
+        let summary = trace.summary();
+        let end = 52 + 8 * example.positions.len() as u32;
+        assert_eq!(
+            (summary.facilities, summary.changes, summary.end),
+            (1, 4, end),
+            "{what}"
+        );
+        for (offset, time, symbol) in [(6, answer.newer, "0"), (4, answer.older, "1")] {
+            let read = trace.change(0, offset).expect("a change");
+            assert_eq!((read.time, read.clean), (time, true), "{what} {offset}");
+            assert_eq!(read.value, bits(symbol), "{what} {offset}");
+        }
+        // Every time on either side of each entry, and any far behind.
+        let shown = |time| trace.value_at(0, time).map(|value| value.to_string());
+        let values = (0..7).map(|time| shown(time).expect("a value"));
+        assert_eq!(values.collect::<String>(), answer.values, "{what}");
+        assert_eq!(shown(u32::MAX), shown(6), "{what}");
+
+        let changes = [6, 4].map(|offset| Change {
+            facility: 0,
+            offset,
+        });
+        let walk = trace.walk_all().expect("a walk");
+        for size in [1, 2, 9] {
+            let walk = walk.clone().in_batches_of(size);
+            assert_eq!(Vec::from_iter(walk), changes, "{what}");
+        }
+        let mut pairs = [Pair::default()];
+        let mut output = [77; 6];
+        lxt::start_walk(&file, &[1], &mut pairs).expect("a start");
+        let carried = lxt::carry_on(&file, &mut pairs, 3, &mut output);
+        assert_eq!(carried, Ok((2, true)), "{what}");
+        assert_eq!(output, [0, 6, 0, 4, 77, 77], "{what}");
+
+        // The lines of the program, by the answers of the interface.
+        let mut lines = String::from("facility 0 a bits 1\n");
+        for change in changes {
+            let read = trace.change(0, change.offset).expect("a change");
+            lines += &format!("change 0 {} {} {}\n", change.offset, read.time, read.value);
+        }
+        assert_eq!(lines + "done 2\n", example.lines(), "{what}");
+    }
+}
+
+/// What stays refused beside zero deltas, next to a neighbour that is accepted.
+#[test]
+fn only_the_first_position_and_the_bounds_refuse() {
+    for first in 0..4 {
+        refused(&small_trace(0, &[first, 0], &[0, 0]), "a first position");
+        refused(&small_trace(0, &[first, 9], &[0, 0]), "a first position");
+        let file = small_trace(0, &[4, first], &[0, 0]);
+        assert!(lxt::judge(&file).is_ok(), "{first}");
+    }
+    // Bounds of first and last, reached by entries that share a position.
+    for (times, first, accepted) in [
+        ([0, 0, 0], 0, true),
+        ([5, 0, 0], 5, true),
+        ([4, 0, 1], 4, true),
+        ([4, 0, 1], 5, false),
+        ([4, 1, 0], 5, false),
+        ([5, 0, 1], 0, false),
+        ([5, 1, 0], 0, false),
+        ([5, 0, u32::MAX], 0, false),
+    ] {
+        let file = small_trace(first, &[4, 0, 0], &times);
+        match accepted {
+            true => assert!(lxt::judge(&file).is_ok(), "{times:?}"),
+            false => refused(&file, &format!("{times:?}")),
+        }
+    }
+    // T is 76.
+    assert!(lxt::judge(&small_trace(0, &[75, 0, 0], &[0, 0, 0])).is_ok());
+    refused(&small_trace(0, &[75, 0, 1], &[0, 0, 0]), "position T");
+    refused(&small_trace(0, &[76, 0, 0], &[0, 0, 0]), "position T");
+    refused(&small_trace(0, &[6, 0, u32::MAX], &[0, 0, 0]), "a wrap");
+}
+
+/// 1,500 entries with the times 0 to 1,499 at one position: of a change, or behind all three.
+#[test]
+fn of_many_entries_the_last_decides_from_there_on() {
+    let start = "1,500 time entries at ";
+    let mut cases = lxt_generate::hostile();
+    cases.retain(|case| case.origin.starts_with(start));
+    let expected = [[1_499; 3], [0, 1_499, 1_499], [0, 0, 1_499], [0; 3]];
+    assert_eq!(cases.len(), expected.len());
+    for (case, times) in cases.iter().zip(expected) {
+        let trace = Trace::open(&case.bytes).expect("an accepted trace");
+        let mut changes = Vec::from_iter(trace.walk_all().expect("a walk"));
+        changes.reverse();
+        let read = changes.iter().map(|it| trace.change(0, it.offset));
+        let read = Vec::from_iter(read.map(|it| it.expect("a change").time));
+        assert_eq!(read, times, "{}", case.origin);
+        for time in [0, 1, 749, 750, 1_498, 1_499, 1_500] {
+            let newest = times.iter().rposition(|it| *it <= time);
+            let value = newest.map_or("X", |place| ["0", "1", "Z"][place]);
+            let shown = trace.value_at(0, time).expect("a value");
+            assert_eq!(shown, bits(value), "{} {time}", case.origin);
+        }
+    }
+}
+
+/// A trace of another writer, with entries (4, 0), (7, 5) and (7, 9).
+#[test]
+fn a_trace_of_an_independent_writer() {
+    let file = include_bytes!("../../../traces/lxtgen_zerodelta.lxt");
+    let trace = Trace::open(file).expect("an accepted trace");
+    let time = |offset| trace.change(0, offset).map(|read| read.time);
+    assert_eq!((time(7), time(4)), (Ok(9), Ok(0)));
+    for (time, value) in [(0, "0001"), (5, "0001"), (8, "0001"), (9, "0010")] {
+        assert_eq!(trace.value_at(0, time), Ok(bits(value)), "{time}");
+    }
+    let unchanged = bits(&"X".repeat(40));
+    assert_eq!(trace.value_at(1, 9), Ok(unchanged));
+}
