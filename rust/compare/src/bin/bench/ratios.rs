@@ -64,6 +64,14 @@ fn inputs() -> Vec<Input> {
         }
         inputs.push(Input::of_shape("4,096-bit buses", bytes, 122, 4_096));
     }
+    // More time entries than bytes of changes: two or three at each position.
+    let shape = Large {
+        bytes: LONGEST,
+        facilities: 1,
+        width: 8,
+        entries: 2_000_000,
+    };
+    inputs.push(Input::new("2,000,000 times", large(&shape)));
     inputs
 }
 
