@@ -1,9 +1,9 @@
 -- Paper 02, Ask 2: time tables with deltas of zero, what is accepted, and the times of changes.
 use Prim.Native.Nat.{ℕ}
-use mathlib.Core.Path.{_≡_, refl}
+use mathlib.Core.Path.{refl}
 use mathlib.Core.Bool.{true, false}
 use mathlib.Core.List.{List, [], _∷_, _++_, map}
-use lib.ListN.{length, take, drop, replicate}
+use lib.ListN.{length, take, drop}
 use Rattle.lxt_format.specs.Basics.{given, refused, joined}
 use Rattle.lxt_format.specs.Judge.{fileRefusal}
 use Rattle.lxt_format.specs.RisingTimes.{risingRefusal}
@@ -26,11 +26,39 @@ tabled first last positions times =
     ++ joined (spelled 4) times
     ++ drop endOfTrace trace
 
+-- the examples 2-A to 2-I
+abbrev pub exampleA : List ℕ
+exampleA = tabled 0 5 (4 ∷ 0 ∷ []) (0 ∷ 5 ∷ [])
+
+abbrev pub exampleB : List ℕ
+exampleB = tabled 0 5 (5 ∷ 0 ∷ []) (1 ∷ 4 ∷ [])
+
+abbrev pub exampleC : List ℕ
+exampleC = tabled 0 5 (6 ∷ 0 ∷ 0 ∷ []) (1 ∷ 1 ∷ 1 ∷ [])
+
+abbrev pub exampleD : List ℕ
+exampleD = tabled 0 5 (4 ∷ 2 ∷ []) (5 ∷ 0 ∷ [])
+
+abbrev pub exampleE : List ℕ
+exampleE = tabled 0 5 (4 ∷ 2 ∷ 0 ∷ []) (0 ∷ 5 ∷ 0 ∷ [])
+
+abbrev pub exampleF : List ℕ
+exampleF = tabled 0 5 (0 ∷ 4 ∷ []) (0 ∷ 5 ∷ [])
+
+abbrev pub exampleG : List ℕ
+exampleG = tabled 0 5 (3 ∷ 0 ∷ []) (0 ∷ 5 ∷ [])
+
+abbrev pub exampleH : List ℕ
+exampleH = tabled 1 5 (4 ∷ 0 ∷ []) (0 ∷ 5 ∷ [])
+
+abbrev pub exampleI : List ℕ
+exampleI = tabled 0 5 (67 ∷ 0 ∷ []) (0 ∷ 5 ∷ [])
+
 -- what is answered of one of its changes, and the lent byte
 abbrev said : List ℕ → ℕ → Timed × List ℕ
 said s o = (changeAsked s 0 o 1, changeBuffer s 0 o (0xFF ∷ []))
 
--- of the file: its refusal by the old rule and by the new one; the changes in walk order, and what is answered of each
+-- of the file: its refusal by the old rule and by the new one, and what is answered of the newer change and of the older
 abbrev shown : List ℕ → (ℕ × ℕ) × (Timed × List ℕ) × (Timed × List ℕ)
 shown s = ((risingRefusal s, fileRefusal s), said s 6, said s 4)
 
@@ -49,26 +77,26 @@ refused13 =
 abbrev shownAt : List ℕ → List ℕ → List ℕ
 shownAt s times = joined (λ t. valueBuffer s 0 t (0xFF ∷ [])) times
 
--- rows 0xA to 0x12 are the examples 2-A to 2-I
+-- rows 0xA to 0x12 are about the examples 2-A to 2-I
 pub zeroDeltas : List Row
 zeroDeltas =
-    row 0xA (shown (tabled 0 5 (4 ∷ 0 ∷ []) (0 ∷ 5 ∷ []))) (accepted 5 5)
-    ∷ row 0xB (shown (tabled 0 5 (5 ∷ 0 ∷ []) (1 ∷ 4 ∷ []))) (accepted 5 1)
-    ∷ row 0xC (shown (tabled 0 5 (6 ∷ 0 ∷ 0 ∷ []) (1 ∷ 1 ∷ 1 ∷ []))) (accepted 3 1)
-    ∷ row 0xD (shown (tabled 0 5 (4 ∷ 2 ∷ []) (5 ∷ 0 ∷ []))) (accepted 5 5)
-    ∷ row 0xE (shown (tabled 0 5 (4 ∷ 2 ∷ 0 ∷ []) (0 ∷ 5 ∷ 0 ∷ []))) (accepted 5 0)
-    ∷ row 0xF (shown (tabled 0 5 (0 ∷ 4 ∷ []) (0 ∷ 5 ∷ []))) refused13
-    ∷ row 0x10 (shown (tabled 0 5 (3 ∷ 0 ∷ []) (0 ∷ 5 ∷ []))) refused13
-    ∷ row 0x11 (shown (tabled 1 5 (4 ∷ 0 ∷ []) (0 ∷ 5 ∷ []))) refused13
-    ∷ row 0x12 (shown (tabled 0 5 (67 ∷ 0 ∷ []) (0 ∷ 5 ∷ []))) (accepted 0 0)
-    -- their walk
-    ∷ row 0xA (fullList (tabled 0 5 (4 ∷ 0 ∷ []) (0 ∷ 5 ∷ [])) (1 ∷ [])) (pair 0 6 ∷ pair 0 4 ∷ [])
+    row 0xA (shown exampleA) (accepted 5 5)
+    ∷ row 0xB (shown exampleB) (accepted 5 1)
+    ∷ row 0xC (shown exampleC) (accepted 3 1)
+    ∷ row 0xD (shown exampleD) (accepted 5 5)
+    ∷ row 0xE (shown exampleE) (accepted 5 0)
+    ∷ row 0xF (shown exampleF) refused13
+    ∷ row 0x10 (shown exampleG) refused13
+    ∷ row 0x11 (shown exampleH) refused13
+    ∷ row 0x12 (shown exampleI) (accepted 0 0)
+    -- the walk is that of the small trace
+    ∷ row 0xA (fullList exampleA (1 ∷ [])) (pair 0 6 ∷ pair 0 4 ∷ [])
     -- the values around the times of equal positions: X, the initial symbol, before the first
-    ∷ row 0xA (shownAt (tabled 0 5 (4 ∷ 0 ∷ []) (0 ∷ 5 ∷ [])) (0 ∷ 4 ∷ 5 ∷ [])) (spelled 3 0x585830)
-    ∷ row 0xB (shownAt (tabled 0 5 (5 ∷ 0 ∷ []) (1 ∷ 4 ∷ [])) (0 ∷ 1 ∷ 4 ∷ 5 ∷ [])) (spelled 4 0x58313130)
-    ∷ row 0xC (shownAt (tabled 0 5 (6 ∷ 0 ∷ 0 ∷ []) (1 ∷ 1 ∷ 1 ∷ [])) (0 ∷ 1 ∷ 2 ∷ 3 ∷ [])) (spelled 4 0x58313130)
-    ∷ row 0xD (shownAt (tabled 0 5 (4 ∷ 2 ∷ []) (5 ∷ 0 ∷ [])) (4 ∷ 5 ∷ [])) (spelled 2 0x5830)
-    ∷ row 0x12 (shownAt (tabled 0 5 (67 ∷ 0 ∷ []) (0 ∷ 5 ∷ [])) (0 ∷ 5 ∷ [])) (spelled 2 0x3030)
+    ∷ row 0xA (shownAt exampleA (0 ∷ 4 ∷ 5 ∷ [])) (spelled 3 0x585830)
+    ∷ row 0xB (shownAt exampleB (0 ∷ 1 ∷ 4 ∷ 5 ∷ [])) (spelled 4 0x58313130)
+    ∷ row 0xC (shownAt exampleC (0 ∷ 1 ∷ 2 ∷ 3 ∷ [])) (spelled 4 0x58313130)
+    ∷ row 0xD (shownAt exampleD (4 ∷ 5 ∷ [])) (spelled 2 0x5830)
+    ∷ row 0x12 (shownAt exampleI (0 ∷ 5 ∷ [])) (spelled 2 0x3030)
     -- all entries at the first position, at 4 and above both changes; equal times, at first and at last
     ∷ row 1 (shown (tabled 7 7 (4 ∷ 0 ∷ 0 ∷ []) (7 ∷ 0 ∷ 0 ∷ []))) (accepted 7 7)
     ∷ row 1 (shown (tabled 7 9 (7 ∷ 0 ∷ 0 ∷ []) (7 ∷ 1 ∷ 1 ∷ []))) (accepted 7 7)

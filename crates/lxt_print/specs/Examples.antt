@@ -10,7 +10,7 @@ use Rattle.lxt_format.specs.Judge.{fileRefusal}
 use Rattle.lxt_format.specs.Everything.{everything}
 use Rattle.lxt_format.specs.Traces.{spelled, trace}
 use Rattle.lxt_format.specs.Examples.{Row, row, Holds}
-use Rattle.lxt_format.specs.ZeroDeltas.{tabled}
+use Rattle.lxt_format.specs.ZeroDeltas.{tabled, exampleA, exampleB, exampleC, exampleD, exampleE, exampleF, exampleG, exampleH, exampleI}
 use Rattle.lxt_print.specs.Lines.{decimalWithin, decimal, hexDigit, hexByte, hexBytes, facilityWord, changeWord, doneWord, refusedWord, aliasWord, kindWord, facilityLine, valueText, changeLine, doneLine, refusedLine, acceptedText, printRefusal, printed}
 
 -- "facility 0 a bits 1", "change 0 6 5 0", "change 0 4 0 1", "done 2"
@@ -39,15 +39,15 @@ refused13 = spelled 11 0x726566757365642031330A
 
 pub zeroDeltas : List Row
 zeroDeltas =
-    row 0xA (printed (tabled 0 5 (4 ∷ 0 ∷ []) (0 ∷ 5 ∷ []))) (linesWith 0x35 0x35)
-    ∷ row 0xB (printed (tabled 0 5 (5 ∷ 0 ∷ []) (1 ∷ 4 ∷ []))) (linesWith 0x35 0x31)
-    ∷ row 0xC (printed (tabled 0 5 (6 ∷ 0 ∷ 0 ∷ []) (1 ∷ 1 ∷ 1 ∷ []))) (linesWith 0x33 0x31)
-    ∷ row 0xD (printed (tabled 0 5 (4 ∷ 2 ∷ []) (5 ∷ 0 ∷ []))) (linesWith 0x35 0x35)
-    ∷ row 0xE (printed (tabled 0 5 (4 ∷ 2 ∷ 0 ∷ []) (0 ∷ 5 ∷ 0 ∷ []))) (linesWith 0x35 0x30)
-    ∷ row 0xF (printed (tabled 0 5 (0 ∷ 4 ∷ []) (0 ∷ 5 ∷ []))) refused13
-    ∷ row 0x10 (printed (tabled 0 5 (3 ∷ 0 ∷ []) (0 ∷ 5 ∷ []))) refused13
-    ∷ row 0x11 (printed (tabled 1 5 (4 ∷ 0 ∷ []) (0 ∷ 5 ∷ []))) refused13
-    ∷ row 0x12 (printed (tabled 0 5 (67 ∷ 0 ∷ []) (0 ∷ 5 ∷ []))) (linesWith 0x30 0x30)
+    row 0xA (printed exampleA) (linesWith 0x35 0x35)
+    ∷ row 0xB (printed exampleB) (linesWith 0x35 0x31)
+    ∷ row 0xC (printed exampleC) (linesWith 0x33 0x31)
+    ∷ row 0xD (printed exampleD) (linesWith 0x35 0x35)
+    ∷ row 0xE (printed exampleE) (linesWith 0x35 0x30)
+    ∷ row 0xF (printed exampleF) refused13
+    ∷ row 0x10 (printed exampleG) refused13
+    ∷ row 0x11 (printed exampleH) refused13
+    ∷ row 0x12 (printed exampleI) (linesWith 0x30 0x30)
     ∷ []
 
 pub zero-deltas-printed : Holds zeroDeltas

@@ -150,6 +150,20 @@ fn of_many_entries_the_last_decides_from_there_on() {
     }
 }
 
+/// 2,000,000 entries at one position, nearly as many as the longest file has room for: accepted, and refused for
+/// the time of the first.
+#[test]
+fn as_many_entries_as_fit() {
+    let mut cases = lxt_generate::hostile_large();
+    cases.retain(|case| case.origin.starts_with("2,000,000 time entries"));
+    let answers = cases.iter().map(|case| {
+        let judged = lxt::judge(&case.bytes).map_err(|it| it.number());
+        (judged.map(|_| ()), case.expected.expect("an answer"))
+    });
+    let answers = Vec::from_iter(answers);
+    assert_eq!(answers, [(Ok(()), Ok(())), (Err(13), Err(13))]);
+}
+
 /// A trace of another writer, with entries (4, 0), (7, 5) and (7, 9).
 #[test]
 fn a_trace_of_an_independent_writer() {
