@@ -15,7 +15,7 @@ use Rattle.lxt_format.specs.Times.{positionDeltas, timeDeltas, sumsFrom,
 
 -- ---- running sums
 
-pub length-sums : (a : ℕ) (ds : List ℕ) → length (sumsFrom a ds) ≡ length ds
+length-sums : (a : ℕ) (ds : List ℕ) → length (sumsFrom a ds) ≡ length ds
 unfolding sumsFrom
 length-sums a [] = refl
 length-sums a (d ∷ ds) = ap suc (length-sums (a + d) ds)
@@ -56,7 +56,7 @@ unfolding all
 at-least-0 [] = refl
 at-least-0 (d ∷ ds) = rw (leb·zero d) (at-least-0 ds)
 
-pub sums-never-fall : (a : ℕ) (ds : List ℕ) (i j : ℕ) → i < j → j < length ds → getD (sumsFrom a ds) i 0 ≤ getD (sumsFrom a ds) j 0
+sums-never-fall : (a : ℕ) (ds : List ℕ) (i j : ℕ) → i < j → j < length ds → getD (sumsFrom a ds) i 0 ≤ getD (sumsFrom a ds) j 0
 sums-never-fall a ds i j k l = let apart = sums-apart 0 a ds (at-least-0 (drop 1 ds)) i j k l in omega arith
 
 -- ---- entries, and an offset
@@ -101,11 +101,11 @@ module _ (s : List ℕ) where
   unfolding timeDeltas
   length-time-deltas = length-u32s (timeCount s) s (sectionOf s 0x06 + 12 + 4 * timeCount s)
 
-  pub length-positions : length (positionsOf s) ≡ timeCount s
+  length-positions : length (positionsOf s) ≡ timeCount s
   unfolding positionsOf
   length-positions = length-sums 0 (positionDeltas s) ∙ length-position-deltas
 
-  pub length-times : length (timesOf s) ≡ timeCount s
+  length-times : length (timesOf s) ≡ timeCount s
   unfolding timesOf
   length-times = length-sums 0 (timeDeltas s) ∙ length-time-deltas
 
