@@ -14,9 +14,9 @@ use Rattle.lxt_format.specs.declared.Facts.{Facts}
 use Rattle.lxt_format.specs.declared.Pair.{Pair}
 use Rattle.lxt_format.specs.declared.Summary.{Summary}
 
--- checks 1 to 14, which carrying on makes too
-unfoldable pub tablesRefusal : List ℕ → ℕ
-tablesRefusal s =
+-- checks 1 to 14, where `times` says whether the rule of times is kept: RisingTimes puts the one before Ask 2 in its place
+unfoldable pub tablesRefusalBy : Bool → List ℕ → ℕ
+tablesRefusalBy times s =
     1 unless lengthAllowed s
     orElse 2 unless startsRight s
     orElse 3 unless endsRight s
@@ -29,8 +29,12 @@ tablesRefusal s =
     orElse 10 unless namesAllowed s
     orElse 11 unless geometriesAllowed s
     orElse 12 unless aliasesAllowed s
-    orElse 13 unless timesAllowed s
+    orElse 13 unless times
     orElse 14 unless realTestAllowed s
+
+-- by the rule that holds: carrying on makes these too
+unfoldable pub tablesRefusal : List ℕ → ℕ
+tablesRefusal s = tablesRefusalBy (timesAllowed s) s
 
 -- how the changes of a facility with these facts are read, and those of the root f
 abbrev pub signalBy : List ℕ → Facts → Signal

@@ -19,7 +19,7 @@ use Rattle.lxt_format.specs.Times.{timesAllowed}
 use Rattle.lxt_format.specs.Reals.{realTestAllowed}
 use Rattle.lxt_format.specs.Changes.{previousOf, chainFault}
 use Rattle.lxt_format.specs.ChangesLaws.{Sound, sound, chain-more}
-use Rattle.lxt_format.specs.Judge.{tablesRefusal, signalOf, faultFrom, chainsRefusal, changesApart, fileRefusal}
+use Rattle.lxt_format.specs.Judge.{tablesRefusalBy, tablesRefusal, signalOf, faultFrom, chainsRefusal, changesApart, fileRefusal}
 
 -- what a file keeps that refusals 1 to 14 pass
 pub record Passed (s : List ℕ) : Type 0 where
@@ -39,7 +39,7 @@ pub record Passed (s : List ℕ) : Type 0 where
   pub real-test : realTestAllowed s ≡ true
 
 pub passed : (s : List ℕ) → tablesRefusal s ≡ 0 → Passed s
-unfolding tablesRefusal
+unfolding tablesRefusal tablesRefusalBy
 passed s h =
     let c1 = neither _ _ h in
     let c2 = neither _ _ (c1 .1) in

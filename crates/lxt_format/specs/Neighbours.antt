@@ -12,7 +12,7 @@ use Rattle.lxt_format.specs.Sections.{lengthAllowed, startsRight, endsRi
 use Rattle.lxt_format.specs.Names.{nameOf}
 use Rattle.lxt_format.specs.Changes.{previousOf}
 use Rattle.lxt_format.specs.Values.{symbolOf}
-use Rattle.lxt_format.specs.Judge.{tablesRefusal, judge, allChanges, endAt, fileRefusal}
+use Rattle.lxt_format.specs.Judge.{tablesRefusalBy, tablesRefusal, judge, allChanges, endAt, fileRefusal}
 use Rattle.lxt_format.specs.Walk.{fullList}
 use Rattle.lxt_format.specs.Answers.{Shown, bitsOf, realOf, textOf, nothing, Timed}
 use Rattle.lxt_format.specs.Questions.{factsAsked, rootAsked, nameAsked, namePart, nameBuffer, beforeAsked, changeAsked, changeBuffer, valueAsked, valueBuffer, startAsked, startRecord, carryAsked, carryRecord, carryOutput}
@@ -260,7 +260,7 @@ neighbours-hold =
 -- refusal 9 of a whole file. Such a file has 65,000 bytes and more, so this is said of any, by what it keeps, and not computed
 pub too-many : (s : List ℕ) → lengthAllowed s ≡ true → startsRight s ≡ true → endsRight s ≡ true → listingOf s .listed ≡ true → nothingCompressed s ≡ true
     → present s 0x09 ≡ false → sectionsPresent s ≡ true → bodiesInside s ≡ true → facilityCount s ≡ 4097 → fileRefusal s ≡ 9
-unfolding fileRefusal tablesRefusal countAllowed
+unfolding fileRefusal tablesRefusal tablesRefusalBy countAllowed
 too-many s a b c d e f g h n = rw (a, b, c, d, e, f, g, h, n)
 
 -- the answers of the trace `mixed`

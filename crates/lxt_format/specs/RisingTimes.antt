@@ -1,17 +1,14 @@
 -- The rule of 13 before paper 02, Ask 2, and what Ask 2 promises: "A trace accepted before keeps all its answers."
 use Prim.Native.Nat.{ℕ, _≤_, _<_}
 use mathlib.Core.Path.{_≡_}
-use mathlib.Core.Bool.{Bool, true, not, _&&_}
+use mathlib.Core.Bool.{Bool, true, _&&_}
 use mathlib.Core.List.{List}
 use lib.ListN.{getD, drop}
 use lib.Dec.{ltb, leb, eqb}
 use Rattle.lxt_format.specs.Basics.{if_then_else_, _unless_, _orElse_, all}
-use Rattle.lxt_format.specs.Sections.{lengthAllowed, startsRight, endsRight, listingOf, nothingCompressed, present, sectionsPresent, bodiesInside, countAllowed, facilityCount, endOf, timeCount}
-use Rattle.lxt_format.specs.Names.{namesAllowed}
-use Rattle.lxt_format.specs.Geometry.{geometriesAllowed, aliasesAllowed}
+use Rattle.lxt_format.specs.Sections.{endOf, timeCount}
 use Rattle.lxt_format.specs.Times.{firstTime, lastTime, positionDeltas, timeDeltas, positionsOf, timesOf, timesAllowed, timeOf}
-use Rattle.lxt_format.specs.Reals.{realTestAllowed}
-use Rattle.lxt_format.specs.Judge.{tablesRefusal, chainsRefusal, changesApart, fileRefusal}
+use Rattle.lxt_format.specs.Judge.{tablesRefusalBy, tablesRefusal, chainsRefusal, changesApart, fileRefusal}
 
 -- ---- the rule of paper 01
 
@@ -30,21 +27,7 @@ risingTimesAllowed s = if eqb (timeCount s) 0 then timesAllowed s else risingTab
 
 -- checks 1 to 14 with it
 unfoldable pub risingTablesRefusal : List ℕ → ℕ
-risingTablesRefusal s =
-    1 unless lengthAllowed s
-    orElse 2 unless startsRight s
-    orElse 3 unless endsRight s
-    orElse 4 unless (listingOf s .listed)
-    orElse 5 unless nothingCompressed s
-    orElse 6 unless not (present s 0x09)
-    orElse 7 unless sectionsPresent s
-    orElse 8 unless bodiesInside s
-    orElse 9 unless countAllowed (facilityCount s)
-    orElse 10 unless namesAllowed s
-    orElse 11 unless geometriesAllowed s
-    orElse 12 unless aliasesAllowed s
-    orElse 13 unless risingTimesAllowed s
-    orElse 14 unless realTestAllowed s
+risingTablesRefusal s = tablesRefusalBy (risingTimesAllowed s) s
 
 -- the refusal of a file with it
 unfoldable pub risingRefusal : List ℕ → ℕ

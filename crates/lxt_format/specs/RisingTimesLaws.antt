@@ -16,7 +16,7 @@ use Rattle.lxt_format.specs.Geometry.{geometriesAllowed, aliasesAllowed}
 use Rattle.lxt_format.specs.Times.{firstTime, lastTime, positionDeltas, timeDeltas, positionsOf, timesOf, tableAllowed, timesAllowed, timeOf}
 use Rattle.lxt_format.specs.TimesLaws.{sums-apart, positions-never-fall, length-position-deltas, last-decides, entry-0-decides}
 use Rattle.lxt_format.specs.Reals.{realTestAllowed}
-use Rattle.lxt_format.specs.Judge.{tablesRefusal, fileRefusal}
+use Rattle.lxt_format.specs.Judge.{tablesRefusalBy, tablesRefusal, fileRefusal}
 use Rattle.lxt_format.specs.RisingTimes.{risingTableAllowed, risingTimesAllowed, risingTablesRefusal, risingRefusal, Gives, reached, before-all, KeepsRefusals, KeepsTimes, ReadsTimes, KeepsAnswers}
 
 -- ---- refusals
@@ -53,7 +53,7 @@ after a {old = old} k =
     }
 
 tables-keep : (s : List ℕ) → Keeps (risingTimesAllowed s) (risingTablesRefusal s) (tablesRefusal s)
-unfolding tablesRefusal risingTablesRefusal
+unfolding tablesRefusalBy tablesRefusal risingTablesRefusal
 tables-keep s =
     let from13 = loosened (risingTimesAllowed s) (timesAllowed s) (14 unless realTestAllowed s) (times-stay s) in
     let from10 = after (10 unless namesAllowed s) (after (11 unless geometriesAllowed s) (after (12 unless aliasesAllowed s) from13)) in

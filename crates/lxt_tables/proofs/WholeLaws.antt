@@ -22,7 +22,7 @@ use Rattle.lxt_format.specs.Names.{namesIn, withinMemory, nameTable, namesAllow
 use Rattle.lxt_format.specs.Geometry.{rootsOf, syncOf, geometriesAllowed, aliasesAllowed}
 use Rattle.lxt_format.specs.Times.{tableAllowed, timesAllowed}
 use Rattle.lxt_format.specs.Reals.{testPattern, placeOf, testBytes, isReordering, byteOrder, hasReal, realTestAllowed}
-use Rattle.lxt_format.specs.Judge.{tablesRefusal}
+use Rattle.lxt_format.specs.Judge.{tablesRefusalBy, tablesRefusal}
 use Rattle.lxt_sections.specs.Stage.{frameRefusal, countedRefusal, sectionsRefusal, found, sectionsOf}
 use Rattle.lxt_sections.specs.declared.Sections.{Sections}
 use Rattle.lxt_tables.specs.Stage.{refusedTables, tablesOf}
@@ -227,7 +227,7 @@ regroup a b c d e f g h i j k l m n =
     ∙ ap (λ (x : ℕ). d orElse e orElse f orElse g orElse x) (right-2 h i rest ∙ ap (λ (x : ℕ). h orElse i orElse x) (right-4 j k l m n)))
 
 pub in-parts : (s : List ℕ) → tablesRefusal s ≡ (sectionsRefusal s orElse middleRefusal s orElse 14 unless realTestAllowed s)
-unfolding tablesRefusal sectionsRefusal frameRefusal countedRefusal middleRefusal
+unfolding tablesRefusal tablesRefusalBy sectionsRefusal frameRefusal countedRefusal middleRefusal
 in-parts s =
     sym (regroup (1 unless lengthAllowed s) (2 unless startsRight s) (3 unless endsRight s) (4 unless (listingOf s .listed)) (5 unless nothingCompressed s)
     (6 unless not (present s 0x09)) (7 unless sectionsPresent s) (8 unless bodiesInside s) (9 unless countAllowed (facilityCount s))

@@ -343,22 +343,24 @@ fn clean_and_dirty_neighbours() {
     assert!(made >= 150, "{made}");
 }
 
+/// What a damage makes of 600 files that are not too long; what it breaks is refused by its number.
+fn neighbours_by(damage: &Damage) -> impl Iterator<Item = Neighbours> + '_ {
+    let bases = (0..600).map(|seed| (Random::new(seed + 1), valid(seed)));
+    let short = bases.filter(|(_, base)| base.end() <= 20_000);
+    short.filter_map(|(mut random, base)| {
+        let neighbours = (damage.apply)(&base, &mut random)?;
+        assert_eq!(answer(&neighbours.over.bytes()), Err(damage.number));
+        Some(neighbours)
+    })
+}
+
 /// Files with rubbish come to 17, and to 16 by a code in use: each damage of theirs starts from dirty
 /// files and from clean ones.
 #[test]
 fn dirty_files_reach_every_refusal_of_changes() {
     for damage in DAMAGES.iter().filter(|it| it.number >= 15) {
         let (mut clean, mut dirty) = (0, 0);
-        for seed in 0..600 {
-            let mut random = Random::new(seed + 1);
-            let base = valid(seed);
-            if base.end() > 20_000 {
-                continue;
-            }
-            let Some(neighbours) = (damage.apply)(&base, &mut random) else {
-                continue;
-            };
-            assert_eq!(answer(&neighbours.over.bytes()), Err(damage.number));
+        for neighbours in neighbours_by(damage) {
             match reader::judge(&neighbours.near.bytes()).map(|it| it.clean) {
                 Ok(true) => clean += 1,
                 Ok(false) => dirty += 1,
@@ -530,16 +532,7 @@ fn zero_deltas_on_both_sides() {
 fn zero_deltas_in_files_of_every_later_refusal() {
     for damage in DAMAGES.iter().filter(|it| it.number >= 14) {
         let mut counts = [0; 2];
-        for seed in 0..600 {
-            let mut random = Random::new(seed + 1);
-            let base = valid(seed);
-            if base.end() > 20_000 {
-                continue;
-            }
-            let Some(neighbours) = (damage.apply)(&base, &mut random) else {
-                continue;
-            };
-            assert_eq!(answer(&neighbours.over.bytes()), Err(damage.number));
+        for neighbours in neighbours_by(damage) {
             counts[usize::from(zeros(&neighbours.over).contains(&true))] += 1;
         }
         println!("{} {:45} {counts:?}", damage.number, damage.name);
