@@ -1,14 +1,21 @@
 -- From what the reader answers to what the C functions hand out.
 use Prim.Native.Nat.{ℕ}
-use mathlib.Core.Path.{_≡_, _∙_, ap}
+use mathlib.Core.Path.{_≡_, sym, _∙_, ap}
 use mathlib.Core.Bool.{Bool}
 use mathlib.Core.List.{List, [], _∷_}
+use lib.IntN.{ℤ}
+use lib.Dec.{eqb}
 use lib.Ieee.{Float}
+use mir.Syntax.{w64}
+use mir.Val.{SFits, toZ, ofZ}
+use mir.ValLaws.{toZ-ofZ}
+use borrow.Author.Tests.{eqb-false}
 use native.Mathlib.Omega.{arith}
 use native.Mathlib.Decide.{ℕ-discrete}
 use Rattle.lxt_format.specs.Basics.{Answer, given, refused, answer}
-use Rattle.lxt_format.specs.BasicsLaws.{answer-given, answer-refused}
-use Rattle.lxt_format.specs.Answers.{Shown, Timed, valueSays, timedSays, carrySays}
+use Rattle.lxt_format.specs.BasicsLaws.{on-test, answer-given, answer-refused}
+use Rattle.lxt_format.specs.Answers.{Shown, valueSays, timedSays, carrySays}
+use Rattle.lxt_format.specs.Questions.{readingRefusal, changeAsked, valueAsked, valueBuffer}
 use Rattle.lxt_format.specs.declared.CarryAnswer.{CarryAnswer}
 use Rattle.lxt_format.specs.declared.CarryAnswer.the-variants.{Handed}
 use Rattle.lxt_format.specs.declared.TimedValue.{TimedValue}
@@ -47,10 +54,6 @@ module _ (v : Value) where
   unfolding numberOf
   bits-number w e = rw e
 
-  pub bits-beside : (w : ℕ) → v ≡ Bits w → (number before : ℕ) → number ≡ besideValue (valueSays v) number before
-  unfolding besideValue
-  bits-beside w e number before = rw e
-
   pub bits-numbers : (w : ℕ) → v ≡ Bits w → (before : List ℕ) → (0 ∷ w ∷ 0 ∷ []) ≡ valueNumbers (valueSays v) before
   unfolding valueNumbers shownNumbers
   bits-numbers w e before = rw e
@@ -58,10 +61,6 @@ module _ (v : Value) where
   pub real-number : (x : Float) (b : ℕ) → v ≡ Real x b → 0 ≡ numberOf (valueSays v)
   unfolding numberOf
   real-number x b e = rw e
-
-  pub real-beside : (x : Float) (b : ℕ) → v ≡ Real x b → (number before : ℕ) → number ≡ besideValue (valueSays v) number before
-  unfolding besideValue
-  real-beside x b e number before = rw e
 
   pub real-numbers : (x : Float) (b : ℕ) → v ≡ Real x b → (before : List ℕ) → (1 ∷ b ∷ 0 ∷ []) ≡ valueNumbers (valueSays v) before
   unfolding valueNumbers shownNumbers
@@ -71,27 +70,71 @@ module _ (v : Value) where
   unfolding numberOf
   text-number start size e = rw e
 
-  pub text-beside : (start size : ℕ) → v ≡ Text start size → (number before : ℕ) → number ≡ besideValue (valueSays v) number before
-  unfolding besideValue
-  text-beside start size e number before = rw e
-
   pub text-numbers : (start size : ℕ) → v ≡ Text start size → (before : List ℕ) → (2 ∷ start ∷ size ∷ []) ≡ valueNumbers (valueSays v) before
   unfolding valueNumbers shownNumbers
   text-numbers start size e before = rw e
 
+-- what is answered beside a value, by the number that is returned
+module _ {A : Type 0} (refusal : ℕ) (v : Shown) (x before : A) where
+  beside-given : numberOf (answer refusal v) ≡ 0 → x ≡ besideValue (answer refusal v) x before
+  unfolding numberOf besideValue
+  beside-given h =
+      on-test (eqb refusal 0)
+      (λ q. rw q)
+      (λ q. let z : refusal ≡ 0 = rw q at h in absurd (eqb-false refusal 0 q z))
+
+  beside-refused : (numberOf (answer refusal v) ≡ 0 → ⊥) → before ≡ besideValue (answer refusal v) x before
+  unfolding numberOf besideValue
+  beside-refused n = on-test (eqb refusal 0) (λ q. absurd (n (rw q))) (λ q. rw q)
+
 -- a change's time and value, and whether its padding was clean
-module _ {p : Timed} (t : TimedValue) (e : timedSays t ≡ p) where
-  pub timed-number : {r : ℕ} → r ≡ numberOf (valueSays (t .value)) → r ≡ numberOf (p .value)
-  timed-number h = h ∙ ap (λ a. numberOf (a .value)) e
+module _ (s : List ℕ) (f o room : ℕ) (t : TimedValue) (e : timedSays t ≡ changeAsked s f o room) (r : ℕ) (er : r ≡ numberOf (valueSays (t .value))) where
+  pub timed-number : r ≡ numberOf (changeAsked s f o room .value)
+  timed-number = er ∙ ap (λ a. numberOf (a .value)) e
 
-  pub timed-numbers : (before : List ℕ) {after : List ℕ} → after ≡ valueNumbers (valueSays (t .value)) before → after ≡ valueNumbers (p .value) before
-  timed-numbers before h = h ∙ ap (λ a. valueNumbers (a .value) before) e
+  pub timed-numbers : (before after : List ℕ) → after ≡ valueNumbers (valueSays (t .value)) before → after ≡ valueNumbers (changeAsked s f o room .value) before
+  timed-numbers before after h = h ∙ ap (λ a. valueNumbers (a .value) before) e
 
-  pub timed-time : (before : ℕ) {after : ℕ} → after ≡ besideValue (valueSays (t .value)) (t .time) before → after ≡ changeTime p before
-  timed-time before h = h ∙ ap (λ a. changeTime a before) e
+  module _ (n : r ≡ 0 → ⊥) where
+    refused-is : numberOf (changeAsked s f o room .value) ≡ 0 → ⊥
+    refused-is z = n (timed-number ∙ z)
 
-  pub timed-clean : (clean : ℕ) → clean ≡ yesNo (t .clean) → (before : ℕ) {after : ℕ} → after ≡ besideValue (valueSays (t .value)) clean before → after ≡ changeClean p before
-  timed-clean clean ec before h = h ∙ rw ec (ap (λ a. changeClean a before) e)
+    pub untimed : (before : ℤ) → before ≡ changeTime (changeAsked s f o room) before
+    unfolding changeAsked
+    untimed before = beside-refused (readingRefusal s f o room) _ (changeAsked s f o room .time) before refused-is
+
+    pub unclean : (before : ℕ) → before ≡ changeClean (changeAsked s f o room) before
+    unfolding changeAsked
+    unclean before = beside-refused (readingRefusal s f o room) _ (yesNo (changeAsked s f o room .clean)) before refused-is
+
+  module _ (z : r ≡ 0) where
+    given-is : numberOf (changeAsked s f o room .value) ≡ 0
+    given-is = sym timed-number ∙ z
+
+    pub timed-time : (fits : SFits w64 (t .time)) (before : ℤ) → toZ w64 (ofZ w64 (t .time)) ≡ changeTime (changeAsked s f o room) before
+    unfolding changeAsked
+    timed-time fits before =
+        toZ-ofZ w64 (t .time) fits ∙ (ap (λ a. a .time) e ∙ beside-given (readingRefusal s f o room) _ (changeAsked s f o room .time) before given-is)
+
+    pub timed-clean : (clean : ℕ) → clean ≡ yesNo (t .clean) → (before : ℕ) → clean ≡ changeClean (changeAsked s f o room) before
+    unfolding changeAsked
+    timed-clean clean ec before =
+        ec ∙ (ap (λ a. yesNo (a .clean)) e ∙ beside-given (readingRefusal s f o room) _ (yesNo (changeAsked s f o room .clean)) before given-is)
+
+-- the value at a time, which is read back from its bits
+module _ (s : List ℕ) (f : ℕ) (t : ℤ) (fits : SFits w64 t) where
+  pub at-buffer : (before after : List ℕ) → after ≡ valueBuffer s f (toZ w64 (ofZ w64 t)) before → after ≡ valueBuffer s f t before
+  at-buffer before after h = h ∙ ap (λ z. valueBuffer s f z before) (toZ-ofZ w64 t fits)
+
+  module _ (room : ℕ) (v : Value) (e : valueSays v ≡ valueAsked s f (toZ w64 (ofZ w64 t)) room) where
+    at-time : valueSays v ≡ valueAsked s f t room
+    at-time = e ∙ ap (λ z. valueAsked s f z room) (toZ-ofZ w64 t fits)
+
+    pub at-number : (r : ℕ) → r ≡ numberOf (valueSays v) → r ≡ numberOf (valueAsked s f t room)
+    at-number r h = h ∙ ap numberOf at-time
+
+    pub at-numbers : (before after : List ℕ) → after ≡ valueNumbers (valueSays v) before → after ≡ valueNumbers (valueAsked s f t room) before
+    at-numbers before after h = h ∙ ap (λ a. valueNumbers a before) at-time
 
 -- pairs that were handed out
 module _ (a : CarryAnswer) (count : ℕ) (done : Bool) (e : a ≡ Handed count done) where

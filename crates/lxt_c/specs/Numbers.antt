@@ -63,13 +63,13 @@ unfoldable pub valueNumbers : Answer Shown → List ℕ → List ℕ
 valueNumbers (given a) before = shownNumbers a
 valueNumbers (refused k) before = before
 
--- a number that is answered beside a value; what was there where the question is refused
-unfoldable pub besideValue : Answer Shown → ℕ → ℕ → ℕ
-besideValue (given v) number before = number
-besideValue (refused k) number before = before
+-- what is answered beside a value; what was there where the question is refused
+unfoldable pub besideValue : {A : Type 0} → Answer Shown → A → A → A
+besideValue (given v) x before = x
+besideValue (refused k) x before = before
 
 -- a change's time, and whether its padding was clean
-abbrev pub changeTime : Timed → ℕ → ℕ
+abbrev pub changeTime : Timed → ℤ → ℤ
 changeTime a before = besideValue (a .value) (a .time) before
 
 abbrev pub changeClean : Timed → ℕ → ℕ

@@ -5,7 +5,7 @@ ghost use Rattle.lxt_format.specs.Judge.{judge};
 ghost use lib.ListN.{length};
 ghost use Rattle.lxt_format.specs.Answers.{numberSays, valueSays};
 ghost use Rattle.lxt_format.specs.Questions.{factsAsked, rootAsked, nameAsked, nameBuffer, beforeAsked, changeAsked, changeBuffer, valueAsked, valueBuffer};
-ghost use Rattle.lxt_c.specs.Numbers.{numberOf, judgeNumbers, judgeTimescale, kindNumber, factsNumbers, factsMsb, factsLsb, oneNumber, valueNumbers, yesNo, besideValue, changeTime, changeClean};
+ghost use Rattle.lxt_c.specs.Numbers.{numberOf, judgeNumbers, judgeTimescale, kindNumber, factsNumbers, factsMsb, factsLsb, oneNumber, valueNumbers, yesNo, changeTime, changeClean};
 use lxt_format::FactsAnswer;
 use lxt_format::Judgement;
 use lxt_format::Kind;
@@ -165,30 +165,6 @@ fn give_value(v: Value, answer: &mut [u64; 3]) -> u32
     }
 }
 
-// A number that is answered beside a value; what was there where the value is refused.
-fn give_beside(v: Value, number: u32, place: &mut u32)
-    ensures { λ _. ⌜ now (place .exit) ≡ besideValue (valueSays v) number (now (place .entry)) ⌝ }
-{
-    match v {
-        Value::Bits { width: _ } => {
-            *place = number;
-        }
-        Value::Real { number: _, bits: _ } => {
-            *place = number;
-        }
-        Value::Text {
-            start: _,
-            length: _,
-        } => {
-            *place = number;
-        }
-        Value::NotDriven => {
-            *place = number;
-        }
-        Value::Refused(_) => {}
-    }
-}
-
 // A change's time and value, and whether its padding is 0; symbols are written into the lent bits buffer.
 #[no_mangle]
 pub extern "C" fn lxt_change(
@@ -196,7 +172,7 @@ pub extern "C" fn lxt_change(
     facility: u32,
     offset: u32,
     bits: &mut [u8],
-    time: &mut u32,
+    time: &mut i64,
     answer: &mut [u64; 3],
     clean: &mut u32,
 ) -> u32
@@ -208,9 +184,14 @@ pub extern "C" fn lxt_change(
 {
     let t = values::of_change(file, facility, offset, bits);
     let v = t.value;
-    give_beside(v, t.time, time);
-    give_beside(v, yes_no(t.clean), clean);
-    give_value(v, answer)
+    let refusal = give_value(v, answer);
+    if refusal != 0 {
+        return refusal;
+    }
+    let at = t.time;
+    *time = at;
+    *clean = yes_no(t.clean);
+    0
 }
 
 // The value at a time; symbols are written into the lent bits buffer.
@@ -218,7 +199,7 @@ pub extern "C" fn lxt_change(
 pub extern "C" fn lxt_value_at(
     file: &[u8],
     facility: u32,
-    time: u32,
+    time: i64,
     bits: &mut [u8],
     answer: &mut [u64; 3],
 ) -> u32

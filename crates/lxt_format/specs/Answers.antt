@@ -2,6 +2,7 @@
 use Prim.Native.Nat.{ℕ}
 use mathlib.Core.Bool.{Bool}
 use lib.ListN.{length}
+use lib.IntN.{ℤ}
 use lib.Ieee.{Float}
 use Rattle.lxt_format.specs.Basics.{Answer, given, refused}
 use Rattle.lxt_format.specs.Values.{Content, bits, real, text, notDriven}
@@ -55,7 +56,7 @@ valueSays (ofValue.Refused n) = refused n
 
 -- what is answered of a change: its time, its value, and whether its padding was clean; where it is refused, 0 and no
 pub record Timed : Type 0 where
-  pub time : ℕ
+  pub time : ℤ
   pub value : Answer Shown
   pub clean : Bool
 

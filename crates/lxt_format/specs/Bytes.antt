@@ -20,12 +20,12 @@ u16At s o = numberAt 2 s o
 unfoldable pub u32At : List ℕ → ℕ → ℕ
 u32At s o = numberAt 4 s o
 
--- k such numbers one after the other, 4 bytes each
-unfoldable pub u32sAt : ℕ → List ℕ → ℕ → List ℕ
-u32sAt zero s o = []
-u32sAt (suc k) s o = u32At s o ∷ u32sAt k s (o + 4)
+-- n such numbers one after the other, k bytes each
+unfoldable pub numbersAt : ℕ → ℕ → List ℕ → ℕ → List ℕ
+numbersAt k zero s o = []
+numbersAt k (suc n) s o = numberAt k s o ∷ numbersAt k n s (o + k)
 
--- a number of 8 or 32 bits read as signed: in its upper half it stands for itself less 2 ^ bits
+-- a number of 8, 32 or 64 bits read as signed: in its upper half it stands for itself less 2 ^ bits
 unfoldable pub signed : ℕ → ℕ → ℤ
 signed bits x = if ltb x (2 ^ (bits - 1)) then pos x else negsuc (2 ^ bits - 1 - x)
 

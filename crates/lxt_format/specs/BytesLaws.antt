@@ -4,10 +4,11 @@ use mathlib.Core.Path.{_≡_, refl, _∙_, ap}
 use mathlib.Core.List.{List, [], _∷_}
 use lib.ListN.{length, getD}
 use native.Mathlib.Omega.{arith}
+use native.Mathlib.Nat.{mul-suc}
 use native.Mathlib.Numerals.{add-one, add-two, add-three}
 use native.Mathlib.Decide.{ℕ-discrete}
 use borrow.Author.Tests.{eq-eqb, ne-eqb}
-use Rattle.lxt_format.specs.Bytes.{byteAt, numberAt, u16At, u32At, u32sAt, toZero}
+use Rattle.lxt_format.specs.Bytes.{byteAt, numberAt, u16At, u32At, numbersAt, toZero}
 
 -- ---- numbers of 1 to 4 bytes, written out
 
@@ -35,6 +36,10 @@ pub u32-bytes : (s : List ℕ) (o : ℕ) → u32At s o ≡ byteAt s o * 16777216
 unfolding u32At
 u32-bytes s o = number-4 s o
 
+pub number-8 : (s : List ℕ) (o : ℕ) → numberAt 8 s o ≡ u32At s o * 4294967296 + u32At s (o + 4)
+unfolding numberAt u32At
+number-8 s o = let e : o + 4 ≡ suc (suc (suc (suc o))) = omega arith in rw e (omega arith)
+
 -- every element of a file is a byte
 abbrev pub AreBytes : List ℕ → Type 0
 AreBytes s = (i : ℕ) → byteAt s i < 256
@@ -42,20 +47,20 @@ AreBytes s = (i : ℕ) → byteAt s i < 256
 pub u32-lt : (s : List ℕ) → AreBytes s → (o : ℕ) → u32At s o < 4294967296
 u32-lt s bytes o = omega (arith, u32-bytes s o, bytes o, bytes (o + 1), bytes (o + 2), bytes (o + 3))
 
--- ---- tables of 32-bit numbers
+-- ---- tables of numbers
 
-pub length-u32s : (k : ℕ) (s : List ℕ) (o : ℕ) → length (u32sAt k s o) ≡ k
-unfolding u32sAt
-length-u32s zero s o = refl
-length-u32s (suc k) s o = ap suc (length-u32s k s (o + 4))
+pub length-numbers : (k n : ℕ) (s : List ℕ) (o : ℕ) → length (numbersAt k n s o) ≡ n
+unfolding numbersAt
+length-numbers k zero s o = refl
+length-numbers k (suc n) s o = ap suc (length-numbers k n s (o + k))
 
-pub getD-u32s : (k : ℕ) (s : List ℕ) (o i d : ℕ) → i < k → getD (u32sAt k s o) i d ≡ u32At s (o + 4 * i)
-unfolding u32sAt
-getD-u32s zero s o i d h = absurd (omega arith)
-getD-u32s (suc k) s o zero d h = let e : o + 0 ≡ o = omega arith in rw e
-getD-u32s (suc k) s o (suc i) d h =
-    let e : o + 4 + 4 * i ≡ o + 4 * suc i = omega arith in
-    getD-u32s k s (o + 4) i d (omega arith) ∙ rw e
+pub getD-numbers : (k n : ℕ) (s : List ℕ) (o i d : ℕ) → i < n → getD (numbersAt k n s o) i d ≡ numberAt k s (o + k * i)
+unfolding numbersAt
+getD-numbers k zero s o i d h = absurd (omega arith)
+getD-numbers k (suc n) s o zero d h = let e : o + k * 0 ≡ o = omega arith in rw e
+getD-numbers k (suc n) s o (suc i) d h =
+    let e : o + k + k * i ≡ o + k * suc i = omega (arith, mul-suc k i) in
+    getD-numbers k n s (o + k) i d (omega arith) ∙ rw e
 
 -- ---- up to a zero
 

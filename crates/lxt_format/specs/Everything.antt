@@ -1,10 +1,10 @@
 -- Every definition open, for the examples: they hold by computing.
 use Rattle.lxt_format.specs.Basics.{range, all, any, select, joined, firstFault}
-use Rattle.lxt_format.specs.Bytes.{numberAt, u16At, u32At, u32sAt, signed, toZero}
-use Rattle.lxt_format.specs.Sections.{lengthAllowed, startsRight, endsRight, listFrom, listingOf, valueIn, sectionOf, present, endOf, changesFrom, facilityCount, timeCount, nothingCompressed, sectionsPresent, bodySize, bodyInside, bodiesInside, countAllowed, timescaleAllowed, timescaleOf, initialOf}
+use Rattle.lxt_format.specs.Bytes.{numberAt, u16At, u32At, numbersAt, signed, toZero}
+use Rattle.lxt_format.specs.Sections.{lengthAllowed, startsRight, endsRight, listFrom, listingOf, valueIn, sectionOf, present, endOf, changesFrom, facilityCount, wideTimes, timesAt, timeCount, nothingCompressed, timesOnce, sectionsPresent, bodySize, bodyInside, bodiesInside, countAllowed, timescaleAllowed, timescaleOf, initialOf}
 use Rattle.lxt_format.specs.Names.{namesIn, memoryOf, nameTable, namesAllowed, nameOf}
 use Rattle.lxt_format.specs.Geometry.{rowsOf, msbOf, lsbOf, flagsOf, isAlias, flagsAllowed, kindOfFlags, widthBetween, geometryAllowed, geometriesAllowed, factsBy, ownFacts, rootWithin, rootOf, aliasesAllowed, rootsOf, factsOf, syncOf}
-use Rattle.lxt_format.specs.Times.{firstTime, lastTime, positionDeltas, timeDeltas, sumsFrom, positionsOf, timesOf, tableAllowed, timesAllowed, timeFrom, timeOf}
+use Rattle.lxt_format.specs.Times.{firstTime, lastTime, positionsAt, positionDeltas, timeDeltaBytes, timeDeltas, sumsBy, positionsOf, timesOf, tableAllowed, timesAllowed, timeFrom, timeOf}
 use Rattle.lxt_format.specs.Reals.{placeOf, testBytes, isReordering, byteOrder, isReal, hasReal, realTestAllowed, bitsInOrder, realBits, realOf}
 use Rattle.lxt_format.specs.Changes.{commandOf, deltaSize, deltaOf, dataAt, previousOf, commandAllowed, symbolSize, packedSize, digits, unpack, codesAt, codesAllowed, unusedBits, paddingClean, dataSize, dataAllowed, cleanAt, changeEnd, previousAllowed, faultAt, chainWithin, chainOf, chainFault, chainClean}
 use Rattle.lxt_format.specs.Values.{symbolOf, symbolsAt, contentBy, contentOf, latestAt, changeAt, initialBy, contentAt}
@@ -14,5 +14,5 @@ use Rattle.lxt_format.specs.Walk.{asks, insert, sort, fullList, allAsked
 use Rattle.lxt_format.specs.Questions.{facilityRefusal, factsAsked, rootAsked, nameRefusal, nameAsked, namePart, holdingName, nameBuffer, chainAsked, changeRefusal, beforeAsked, written, holdingBits, readingRefusal, changeAsked, changeBuffer, valueRefusal, valueAsked, valueBuffer, startRefusal, startAsked, startRecord, carryRefusal, carryPairs, carryOffsets, carryAsked, carryRecord, carryOutput}
 
 unfoldable pub everything : Unit {0}
-unfolding range all any select joined firstFault numberAt u16At u32At u32sAt signed toZero lengthAllowed startsRight endsRight listFrom listingOf valueIn sectionOf present endOf changesFrom facilityCount timeCount nothingCompressed sectionsPresent bodySize bodyInside bodiesInside countAllowed timescaleAllowed timescaleOf initialOf namesIn memoryOf nameTable namesAllowed nameOf rowsOf msbOf lsbOf flagsOf isAlias flagsAllowed kindOfFlags widthBetween geometryAllowed geometriesAllowed factsBy ownFacts rootWithin rootOf aliasesAllowed rootsOf factsOf syncOf firstTime lastTime positionDeltas timeDeltas sumsFrom positionsOf timesOf tableAllowed timesAllowed timeFrom timeOf placeOf testBytes isReordering byteOrder isReal hasReal realTestAllowed bitsInOrder realBits realOf commandOf deltaSize deltaOf dataAt previousOf commandAllowed symbolSize packedSize digits unpack codesAt codesAllowed unusedBits paddingClean dataSize dataAllowed cleanAt changeEnd previousAllowed faultAt chainWithin chainOf chainFault chainClean symbolOf symbolsAt contentBy contentOf latestAt changeAt initialBy contentAt tablesRefusalBy tablesRefusal faultFrom chainsRefusal changesOf allChanges endAt apart pairwise changesApart fileRefusal cleanFrom allClean summaryOf judge risingTableAllowed risingTimesAllowed risingTablesRefusal risingRefusal asks insert sort fullList allAsked startOffsets numbered withOffsets offsetsOf pairAllowed recordAllowed top step handedOut offsetsAfter flat facilityRefusal factsAsked rootAsked nameRefusal nameAsked namePart holdingName nameBuffer chainAsked changeRefusal beforeAsked written holdingBits readingRefusal changeAsked changeBuffer valueRefusal valueAsked valueBuffer startRefusal startAsked startRecord carryRefusal carryPairs carryOffsets carryAsked carryRecord carryOutput
+unfolding range all any select joined firstFault numberAt u16At u32At numbersAt signed toZero lengthAllowed startsRight endsRight listFrom listingOf valueIn sectionOf present endOf changesFrom facilityCount wideTimes timesAt timeCount nothingCompressed timesOnce sectionsPresent bodySize bodyInside bodiesInside countAllowed timescaleAllowed timescaleOf initialOf namesIn memoryOf nameTable namesAllowed nameOf rowsOf msbOf lsbOf flagsOf isAlias flagsAllowed kindOfFlags widthBetween geometryAllowed geometriesAllowed factsBy ownFacts rootWithin rootOf aliasesAllowed rootsOf factsOf syncOf firstTime lastTime positionsAt positionDeltas timeDeltaBytes timeDeltas sumsBy positionsOf timesOf tableAllowed timesAllowed timeFrom timeOf placeOf testBytes isReordering byteOrder isReal hasReal realTestAllowed bitsInOrder realBits realOf commandOf deltaSize deltaOf dataAt previousOf commandAllowed symbolSize packedSize digits unpack codesAt codesAllowed unusedBits paddingClean dataSize dataAllowed cleanAt changeEnd previousAllowed faultAt chainWithin chainOf chainFault chainClean symbolOf symbolsAt contentBy contentOf latestAt changeAt initialBy contentAt tablesRefusalBy tablesRefusal faultFrom chainsRefusal changesOf allChanges endAt apart pairwise changesApart fileRefusal cleanFrom allClean summaryOf judge risingTableAllowed risingTimesAllowed risingTablesRefusal risingRefusal asks insert sort fullList allAsked startOffsets numbered withOffsets offsetsOf pairAllowed recordAllowed top step handedOut offsetsAfter flat facilityRefusal factsAsked rootAsked nameRefusal nameAsked namePart holdingName nameBuffer chainAsked changeRefusal beforeAsked written holdingBits readingRefusal changeAsked changeBuffer valueRefusal valueAsked valueBuffer startRefusal startAsked startRecord carryRefusal carryPairs carryOffsets carryAsked carryRecord carryOutput
 everything = tt

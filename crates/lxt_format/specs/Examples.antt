@@ -57,9 +57,9 @@ table =
     ∷ row 2 (carryAsked trace started 9 18) (given (2, true))
     ∷ row 2 (carryOutput trace started 9 (replicate 18 0xFF)) (0 ∷ 6 ∷ 0 ∷ 4 ∷ replicate 14 0xFF)
     ∷ row 2 (fullList trace (1 ∷ [])) (pair 0 6 ∷ pair 0 4 ∷ [])
-    ∷ row 3 (valueBuffer trace 0 0 (0xFF ∷ [])) (0x31 ∷ [])
-    ∷ row 3 (valueBuffer trace 0 4 (0xFF ∷ [])) (0x31 ∷ [])
-    ∷ row 3 (valueBuffer trace 0 5 (0xFF ∷ [])) (0x30 ∷ [])
+    ∷ row 3 (valueBuffer trace 0 (pos 0) (0xFF ∷ [])) (0x31 ∷ [])
+    ∷ row 3 (valueBuffer trace 0 (pos 4) (0xFF ∷ [])) (0x31 ∷ [])
+    ∷ row 3 (valueBuffer trace 0 (pos 5) (0xFF ∷ [])) (0x30 ∷ [])
     ∷ row 4 (fileRefusal (delta 0x04)) 0
     ∷ row 4 (fullList (delta 0x04) (1 ∷ [])) (pair 0 6 ∷ [])
     ∷ row 5 (fileRefusal (delta 0x01)) 15

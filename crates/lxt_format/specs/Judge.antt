@@ -1,10 +1,10 @@
 -- Paper 01, "Refusal numbers": the refusals of a file, 1 to 17, in their order.
 use Prim.Native.Nat.{ℕ}
-use mathlib.Core.Bool.{Bool, true, not, _&&_, _||_}
+use mathlib.Core.Bool.{Bool, true, _&&_, _||_}
 use mathlib.Core.List.{List, [], _∷_, map}
 use lib.Dec.{leb}
 use Rattle.lxt_format.specs.Basics.{_unless_, _orElse_, Answer, answer, all, joined, firstFault}
-use Rattle.lxt_format.specs.Sections.{lengthAllowed, startsRight, endsRight, listingOf, nothingCompressed, present, sectionsPresent, bodiesInside, countAllowed, facilityCount, changesFrom, endOf, timescaleOf, initialOf}
+use Rattle.lxt_format.specs.Sections.{lengthAllowed, startsRight, endsRight, listingOf, nothingCompressed, timesOnce, sectionsPresent, bodiesInside, countAllowed, facilityCount, changesFrom, endOf, timescaleOf, initialOf}
 use Rattle.lxt_format.specs.Names.{namesAllowed}
 use Rattle.lxt_format.specs.Geometry.{geometriesAllowed, aliasesAllowed, rootsOf, ownFacts, syncOf}
 use Rattle.lxt_format.specs.Times.{timesAllowed}
@@ -22,7 +22,7 @@ tablesRefusalBy times s =
     orElse 3 unless endsRight s
     orElse 4 unless (listingOf s .listed)
     orElse 5 unless nothingCompressed s
-    orElse 6 unless not (present s 0x09)
+    orElse 6 unless timesOnce s
     orElse 7 unless sectionsPresent s
     orElse 8 unless bodiesInside s
     orElse 9 unless countAllowed (facilityCount s)

@@ -7,11 +7,11 @@ use lib.ListN.{length}
 use lib.Dec.{lit<}
 use native.Mathlib.Omega.{arith}
 use native.Mathlib.Decide.{ℕ-discrete}
-use borrow.Author.Tests.{leb-true, not-true}
+use borrow.Author.Tests.{leb-true}
 use Rattle.lxt_format.specs.Limits.{shortestFile, longestFile, mostFacilities}
 use Rattle.lxt_format.specs.Basics.{range, select, firstFault}
 use Rattle.lxt_format.specs.BasicsLaws.{on-test, and-both, kept, neither}
-use Rattle.lxt_format.specs.Sections.{lengthAllowed, startsRight, endsRight, listingOf, nothingCompressed, present, sectionsPresent, bodiesInside, countAllowed, facilityCount}
+use Rattle.lxt_format.specs.Sections.{lengthAllowed, startsRight, endsRight, listingOf, nothingCompressed, timesOnce, sectionsPresent, bodiesInside, countAllowed, facilityCount}
 use Rattle.lxt_format.specs.SectionsLaws.{Located, located}
 use Rattle.lxt_format.specs.Names.{namesAllowed}
 use Rattle.lxt_format.specs.Geometry.{isAlias, geometriesAllowed, aliasesAllowed, rootsOf, syncOf}
@@ -28,7 +28,7 @@ pub record Passed (s : List ℕ) : Type 0 where
   pub ends : endsRight s ≡ true
   pub listed : listingOf s .listed ≡ true
   pub plain : nothingCompressed s ≡ true
-  pub short-times : present s 0x09 ≡ false
+  pub times-once : timesOnce s ≡ true
   pub there : sectionsPresent s ≡ true
   pub bodies : bodiesInside s ≡ true
   pub count : countAllowed (facilityCount s) ≡ true
@@ -60,7 +60,7 @@ passed s h =
       ends = kept 3 _ (lit< tt) (c3 .0);
       listed = kept 4 _ (lit< tt) (c4 .0);
       plain = kept 5 _ (lit< tt) (c5 .0);
-      short-times = not-true _ (kept 6 _ (lit< tt) (c6 .0));
+      times-once = kept 6 _ (lit< tt) (c6 .0);
       there = kept 7 _ (lit< tt) (c7 .0);
       bodies = kept 8 _ (lit< tt) (c8 .0);
       count = kept 9 _ (lit< tt) (c9 .0);

@@ -11,6 +11,7 @@ pub mod Geometry
 pub mod GeometryLaws
 pub mod Times
 pub mod TimesLaws
+pub mod BiasedTimes
 pub mod Reals
 pub mod Changes
 pub mod ChangesLaws

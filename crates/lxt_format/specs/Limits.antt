@@ -1,5 +1,6 @@
 -- "Each limit is named once, with the thing it limits: file 6 to 16,777,216 bytes; facilities 0 to 4,096; name 0 to 1,023 bytes; width 1 to 4,096 bits."
 use Prim.Native.Nat.{ℕ}
+use lib.IntN.{ℤ, pos, negsuc}
 
 abbrev pub shortestFile : ℕ
 shortestFile = 6
@@ -19,3 +20,10 @@ longestName = 1023
 
 abbrev pub widestFacility : ℕ
 widestFacility = 4096
+
+-- paper 02, Ask 1: "All times become signed 64-bit numbers", from -2 ^ 63 to 2 ^ 63 - 1
+abbrev pub leastTime : ℤ
+leastTime = negsuc 9223372036854775807
+
+abbrev pub greatestTime : ℤ
+greatestTime = pos 9223372036854775807

@@ -8,7 +8,7 @@ use lib.IntN.{ℤ, pos, negsuc}
 use lib.Ieee.{binary64, ofBits}
 use Rattle.lxt_format.specs.Limits.{longestFile}
 use Rattle.lxt_format.specs.Basics.{_unless_, Answer, given, refused, range}
-use Rattle.lxt_format.specs.Sections.{lengthAllowed, startsRight, endsRight, listingOf, nothingCompressed, present, sectionsPresent, bodiesInside, countAllowed, facilityCount}
+use Rattle.lxt_format.specs.Sections.{lengthAllowed, startsRight, endsRight, listingOf, nothingCompressed, timesOnce, sectionsPresent, bodiesInside, countAllowed, facilityCount}
 use Rattle.lxt_format.specs.Names.{nameOf}
 use Rattle.lxt_format.specs.Changes.{previousOf}
 use Rattle.lxt_format.specs.Values.{symbolOf}
@@ -65,10 +65,10 @@ judged scale code = given (record { facilities = 6; changes = 5; end = 242; time
 
 -- a change that is read, with clean padding, and one that is refused
 abbrev read : ℕ → Shown → Timed
-read time value = record { time = time; value = given value; clean = true }
+read time value = record { time = pos time; value = given value; clean = true }
 
 abbrev unread : ℕ → Timed
-unread refusal = record { time = 0; value = refused refusal; clean = false }
+unread refusal = record { time = pos 0; value = refused refusal; clean = false }
 
 -- a record of the trace `mixed` in which the facilities 2 and 3 have pending offsets
 abbrev pendingAt : ℕ → ℕ → List Pair
@@ -237,8 +237,8 @@ neighbours =
     ∷ row 20 (carryAsked mixed (pending 29) 0 0) (refused 20)
     ∷ row 21 (nameAsked trace 0 1023) (given 1)
     ∷ row 21 (nameAsked trace 0 1022) (refused 21)
-    ∷ row 21 (valueAsked trace 0 0 1) (given (bitsOf 1))
-    ∷ row 21 (valueAsked trace 0 0 0) (refused 21)
+    ∷ row 21 (valueAsked trace 0 (pos 0) 1) (given (bitsOf 1))
+    ∷ row 21 (valueAsked trace 0 (pos 0) 0) (refused 21)
     ∷ row 21 (changeAsked trace 0 6 0) (unread 21)
     ∷ row 21 (changeAsked trace 0 5 0) (unread 19)
     ∷ row 21 (carryAsked trace [] 0 0) (refused 21)
@@ -259,7 +259,7 @@ neighbours-hold =
 
 -- refusal 9 of a whole file. Such a file has 65,000 bytes and more, so this is said of any, by what it keeps, and not computed
 pub too-many : (s : List ℕ) → lengthAllowed s ≡ true → startsRight s ≡ true → endsRight s ≡ true → listingOf s .listed ≡ true → nothingCompressed s ≡ true
-    → present s 0x09 ≡ false → sectionsPresent s ≡ true → bodiesInside s ≡ true → facilityCount s ≡ 4097 → fileRefusal s ≡ 9
+    → timesOnce s ≡ true → sectionsPresent s ≡ true → bodiesInside s ≡ true → facilityCount s ≡ 4097 → fileRefusal s ≡ 9
 unfolding fileRefusal tablesRefusal tablesRefusalBy countAllowed
 too-many s a b c d e f g h n = rw (a, b, c, d, e, f, g, h, n)
 
@@ -293,16 +293,16 @@ answers =
     ∷ row 6 (changeAsked mixed 2 14 0) (read 10 (realOf (ofBits binary64 0x3FF8000000010203) 0x3FF8000000010203))
     ∷ row 7 (changeAsked mixed 3 24 0) (read 10 (textOf 26 2))
     ∷ row 7 (changeAsked mixed 3 34 0) (read 20 (textOf 36 0))
-    ∷ row 8 (valueAsked mixed 3 9 0) (given nothing)
-    ∷ row 8 (valueAsked mixed 2 9 0) (given nothing)
-    ∷ row 8 (valueAsked mixed 4 20 3) (given (bitsOf 3))
-    ∷ row 8 (valueBuffer mixed 1 9 (replicate 33 0xFF)) (replicate 32 0x31 ++ (0xFF ∷ []))
-    ∷ row 8 (valueBuffer (set mixed initialByte 2) 1 9 (replicate 33 0xFF)) (replicate 32 0x5A ++ (0xFF ∷ []))
-    ∷ row 8 (valueBuffer mixed 0 9 (replicate 4 0xFF)) (spelled 4 0x313131FF)
-    ∷ row 8 (valueBuffer mixed 5 4294967295 (replicate 4 0xFF)) (spelled 4 0x48552DFF)
-    ∷ row 9 (valueBuffer mixed 1 19 (replicate 33 0xFF)) (spelled 33 0x3030303030303030303030303030303030303030303030313030303030303130FF)
-    ∷ row 9 (valueBuffer mixed 1 20 (replicate 33 0xFF)) (replicate 32 0x31 ++ (0xFF ∷ []))
-    ∷ row 9 (valueBuffer mixed 1 20 (replicate 31 0xFF)) (replicate 31 0xFF)
+    ∷ row 8 (valueAsked mixed 3 (pos 9) 0) (given nothing)
+    ∷ row 8 (valueAsked mixed 2 (pos 9) 0) (given nothing)
+    ∷ row 8 (valueAsked mixed 4 (pos 20) 3) (given (bitsOf 3))
+    ∷ row 8 (valueBuffer mixed 1 (pos 9) (replicate 33 0xFF)) (replicate 32 0x31 ++ (0xFF ∷ []))
+    ∷ row 8 (valueBuffer (set mixed initialByte 2) 1 (pos 9) (replicate 33 0xFF)) (replicate 32 0x5A ++ (0xFF ∷ []))
+    ∷ row 8 (valueBuffer mixed 0 (pos 9) (replicate 4 0xFF)) (spelled 4 0x313131FF)
+    ∷ row 8 (valueBuffer mixed 5 (pos 4294967295) (replicate 4 0xFF)) (spelled 4 0x48552DFF)
+    ∷ row 9 (valueBuffer mixed 1 (pos 19) (replicate 33 0xFF)) (spelled 33 0x3030303030303030303030303030303030303030303030313030303030303130FF)
+    ∷ row 9 (valueBuffer mixed 1 (pos 20) (replicate 33 0xFF)) (replicate 32 0x31 ++ (0xFF ∷ []))
+    ∷ row 9 (valueBuffer mixed 1 (pos 20) (replicate 31 0xFF)) (replicate 31 0xFF)
     ∷ row 10 (fullList mixed (replicate 6 1)) (pair 1 37 ∷ pair 3 34 ∷ pair 0 29 ∷ pair 3 24 ∷ pair 2 14 ∷ pair 1 8 ∷ pair 0 5 ∷ [])
     ∷ row 10 (fullList mixed (0 ∷ 0 ∷ 0 ∷ 0 ∷ 9 ∷ 0 ∷ [])) (pair 0 29 ∷ pair 0 5 ∷ [])
     ∷ row 10 (fullList (twoTexts 24) (0 ∷ 0 ∷ 1 ∷ 1 ∷ 0 ∷ 0 ∷ [])) (pair 3 34 ∷ pair 2 24 ∷ pair 3 24 ∷ [])

@@ -4,6 +4,7 @@ use mathlib.Core.Path.{_≡_, refl}
 use mathlib.Core.Bool.{Bool, true, false}
 use mathlib.Core.List.{List, [], _∷_, _++_}
 use lib.ListN.{length, set, replicate}
+use lib.IntN.{pos}
 use Rattle.lxt_format.specs.Basics.{Answer, given, refused}
 use Rattle.lxt_format.specs.Judge.{fileRefusal, judge}
 use Rattle.lxt_format.specs.Answers.{Timed, bitsOf}
@@ -52,7 +53,7 @@ said s width o = (judgedClean (judge s), (changeAsked s 0 o width, changeBuffer 
 
 -- a change of bits that was read
 abbrev was : ℕ → ℕ → Bool → Timed
-was time width clean = record { time = time; value = given (bitsOf width); clean = clean }
+was time width clean = record { time = pos time; value = given (bitsOf width); clean = clean }
 
 -- the change is accepted with these symbols, and its padding was clean or was not
 abbrev accepted : List ℕ → Bool → Answer Bool × (Timed × List ℕ)
@@ -60,7 +61,7 @@ accepted symbols clean = (given clean, (was 7 (length symbols) clean, symbols))
 
 -- the file is refused, and so is the question: it changes nothing lent
 abbrev refusedAs : ℕ → ℕ → Answer Bool × (Timed × List ℕ)
-refusedAs refusal width = (refused refusal, (record { time = 0; value = refused refusal; clean = false }, replicate width 0xFF))
+refusedAs refusal width = (refused refusal, (record { time = pos 0; value = refused refusal; clean = false }, replicate width 0xFF))
 
 -- the trace `mixed` with rubbish in the change at 5, the older of the two of facility 0
 olderDirty : List ℕ
@@ -107,9 +108,9 @@ padding =
     ∷ row 2 (said (secondRoot 0x20) 3 29) (given true, (was 10 3 true, spelled 3 0x48552D))
     ∷ row 2 (said (secondRoot 0x21) 3 29) (given false, (was 10 3 true, spelled 3 0x48552D))
     -- and only those: no root leads to the change at 5 any more
-    ∷ row 2 (said (with32 olderDirty (syncOfMixed 0) 0) 3 29) (given true, (record { time = 0; value = refused 19; clean = false }, replicate 3 0xFF))
+    ∷ row 2 (said (with32 olderDirty (syncOfMixed 0) 0) 3 29) (given true, (record { time = pos 0; value = refused 19; clean = false }, replicate 3 0xFF))
     -- the value at a time and the walk, over rubbish
-    ∷ row 3 (valueBuffer (set olderDirty data29 0x8F) 4 10 (replicate 3 0xFF)) (spelled 3 0x48552D)
+    ∷ row 3 (valueBuffer (set olderDirty data29 0x8F) 4 (pos 10) (replicate 3 0xFF)) (spelled 3 0x48552D)
     ∷ row 3 (carryAsked olderDirty (started olderDirty) 9 18) (given (2, true))
     ∷ row 3 (carryOutput olderDirty (started olderDirty) 9 (replicate 18 0xFF)) (0 ∷ 29 ∷ 0 ∷ 5 ∷ replicate 14 0xFF)
     -- later checks are reached: two roots share the change at 5, with rubbish

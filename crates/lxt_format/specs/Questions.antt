@@ -4,6 +4,7 @@ use Prim.Native.Nat.{ℕ, _*_, _-_}
 use mathlib.Core.Bool.{Bool, _&&_}
 use mathlib.Core.List.{List, [], _++_}
 use lib.ListN.{length, drop, replicate}
+use lib.IntN.{ℤ, pos}
 use lib.Dec.{ltb, leb, eqb}
 use Rattle.lxt_format.specs.Limits.{longestName}
 use Rattle.lxt_format.specs.Basics.{if_then_else_, _unless_, _orElse_, Answer, answer, lentAfter, any}
@@ -87,7 +88,7 @@ unfoldable pub changeAsked : List ℕ → ℕ → ℕ → ℕ → Timed
 changeAsked s f o room =
     let refusal : ℕ = readingRefusal s f o room in
     record {
-      time = if eqb refusal 0 then timeOf s o else 0;
+      time = if eqb refusal 0 then timeOf s o else pos 0;
       value = answer refusal (shown (contentOf s (rootOf s f) o));
       clean = eqb refusal 0 && cleanAt s (signalOf s (rootOf s f)) o;
     }
@@ -95,14 +96,14 @@ changeAsked s f o room =
 unfoldable pub changeBuffer : List ℕ → ℕ → ℕ → List ℕ → List ℕ
 changeBuffer s f o buffer = lentAfter (readingRefusal s f o (length buffer)) (holdingBits (contentOf s (rootOf s f) o) buffer) buffer
 
--- "the value at a time"
+-- "the value at a time"; paper 02, Ask 1: the question "takes" a signed 64-bit number
 unfoldable pub valueRefusal : List ℕ → ℕ → ℕ → ℕ
 valueRefusal s f room = facilityRefusal s f orElse 21 unless leb (factsOf s f .width) room
 
-unfoldable pub valueAsked : List ℕ → ℕ → ℕ → ℕ → Answer Shown
+unfoldable pub valueAsked : List ℕ → ℕ → ℤ → ℕ → Answer Shown
 valueAsked s f t room = answer (valueRefusal s f room) (shown (contentAt s (rootOf s f) t))
 
-unfoldable pub valueBuffer : List ℕ → ℕ → ℕ → List ℕ → List ℕ
+unfoldable pub valueBuffer : List ℕ → ℕ → ℤ → List ℕ → List ℕ
 valueBuffer s f t buffer = lentAfter (valueRefusal s f (length buffer)) (holdingBits (contentAt s (rootOf s f) t) buffer) buffer
 
 -- ---- start a walk

@@ -4,22 +4,19 @@ use mathlib.Core.Path.{_≡_}
 use mathlib.Core.Bool.{Bool, true, _&&_}
 use mathlib.Core.List.{List}
 use lib.ListN.{getD, drop}
-use lib.Dec.{ltb, leb, eqb}
+use lib.IntN.{ℤ, pos}
+use lib.Signed.{leZ}
+use lib.Dec.{leb, eqb}
 use Rattle.lxt_format.specs.Basics.{if_then_else_, _unless_, _orElse_, all}
-use Rattle.lxt_format.specs.Sections.{endOf, timeCount}
-use Rattle.lxt_format.specs.Times.{firstTime, lastTime, positionDeltas, timeDeltas, positionsOf, timesOf, timesAllowed, timeOf}
+use Rattle.lxt_format.specs.Sections.{timeCount}
+use Rattle.lxt_format.specs.Times.{positionDeltas, timeDeltas, positionsOf, timesOf, tableAllowed, timesAllowed, timeOf}
 use Rattle.lxt_format.specs.Judge.{tablesRefusalBy, tablesRefusal, chainsRefusal, changesApart, fileRefusal}
 
 -- ---- the rule of paper 01
 
--- 13: "Every delta after the first is at least 1; the first position is at least 4, every position below T, and first ≤ each time ≤ last."
+-- 13: "Every delta after the first is at least 1"; the rest is the rule that holds
 unfoldable pub risingTableAllowed : List ℕ → Bool
-risingTableAllowed s =
-    all (leb 1) (drop 1 (positionDeltas s))
-    && (all (leb 1) (drop 1 (timeDeltas s))
-    && (leb 4 (getD (positionsOf s) 0 0)
-    && (all (λ p. ltb p (endOf s)) (positionsOf s)
-    && all (λ t. leb (firstTime s) t && leb t (lastTime s)) (timesOf s))))
+risingTableAllowed s = all (leb 1) (drop 1 (positionDeltas s)) && (all (leZ (pos 1)) (drop 1 (timeDeltas s)) && tableAllowed s)
 
 -- without an entry the rule is the same
 unfoldable pub risingTimesAllowed : List ℕ → Bool
@@ -49,11 +46,11 @@ KeepsRefusals = (s : List ℕ) → (risingRefusal s ≡ 13 → ⊥) → (fileRef
 
 -- In a table that the old rule allows each change has the time of every entry that may give it: which of equal positions decides does not touch it.
 abbrev pub KeepsTimes : Type 0
-KeepsTimes = (s : List ℕ) → risingTimesAllowed s ≡ true → (o i : ℕ) → Gives s o i → timeOf s o ≡ getD (timesOf s) i 0
+KeepsTimes = (s : List ℕ) → risingTimesAllowed s ≡ true → (o i : ℕ) → Gives s o i → timeOf s o ≡ getD (timesOf s) i (pos 0)
 
 -- times of changes as a reader by the words of paper 01 may find them, whichever it takes of several entries at one position
-abbrev pub TimesRead : List ℕ → (ℕ → ℕ) → Type 0
-TimesRead s time = (o : ℕ) → (i : ℕ) × (Gives s o i × (time o ≡ getD (timesOf s) i 0))
+abbrev pub TimesRead : List ℕ → (ℕ → ℤ) → Type 0
+TimesRead s time = (o : ℕ) → (i : ℕ) × (Gives s o i × (time o ≡ getD (timesOf s) i (pos 0)))
 
 -- `timeOf` is one such reading, of any table
 abbrev pub ReadsTimes : Type 0
@@ -63,5 +60,5 @@ ReadsTimes = (s : List ℕ) → TimesRead s (timeOf s)
 -- of what Ask 2 leaves alone.
 abbrev pub KeepsAnswers : Type 1
 KeepsAnswers =
-    (s : List ℕ) → risingRefusal s ≡ 0 → (time : ℕ → ℕ) → TimesRead s time
-    → (A : Type 0) (answer : ℕ → ℕ → (ℕ → ℕ) → A) → answer (fileRefusal s) (tablesRefusal s) (timeOf s) ≡ answer (risingRefusal s) (risingTablesRefusal s) time
+    (s : List ℕ) → risingRefusal s ≡ 0 → (time : ℕ → ℤ) → TimesRead s time
+    → (A : Type 0) (answer : ℕ → ℕ → (ℕ → ℤ) → A) → answer (fileRefusal s) (tablesRefusal s) (timeOf s) ≡ answer (risingRefusal s) (risingTablesRefusal s) time

@@ -4,17 +4,19 @@ use mathlib.Core.Path.{_≡_, refl, sym, _∙_, fun-ext}
 use mathlib.Core.Bool.{Bool, true, false, not, _&&_}
 use mathlib.Core.List.{List}
 use lib.ListN.{getD, drop}
-use lib.Dec.{ltb, leb, eqb}
+use lib.IntN.{pos}
+use lib.Signed.{leZ}
+use lib.Dec.{leb, eqb}
 use native.Mathlib.Omega.{arith}
 use native.Mathlib.Decide.{decLe, ℕ-discrete}
 use borrow.Author.Tests.{ne-eqb}
 use Rattle.lxt_format.specs.Basics.{_unless_, _orElse_, all}
 use Rattle.lxt_format.specs.BasicsLaws.{on-test, and-both, neither}
-use Rattle.lxt_format.specs.Sections.{lengthAllowed, startsRight, endsRight, listingOf, nothingCompressed, present, sectionsPresent, bodiesInside, countAllowed, facilityCount, endOf, timeCount}
+use Rattle.lxt_format.specs.Sections.{lengthAllowed, startsRight, endsRight, listingOf, nothingCompressed, timesOnce, sectionsPresent, bodiesInside, countAllowed, facilityCount, timeCount}
 use Rattle.lxt_format.specs.Names.{namesAllowed}
 use Rattle.lxt_format.specs.Geometry.{geometriesAllowed, aliasesAllowed}
-use Rattle.lxt_format.specs.Times.{firstTime, lastTime, positionDeltas, timeDeltas, positionsOf, timesOf, tableAllowed, timesAllowed, timeOf}
-use Rattle.lxt_format.specs.TimesLaws.{sums-apart, positions-never-fall, length-position-deltas, last-decides, entry-0-decides}
+use Rattle.lxt_format.specs.Times.{positionDeltas, timeDeltas, positionsOf, tableAllowed, timesAllowed, timeOf}
+use Rattle.lxt_format.specs.TimesLaws.{sums-apart, positions-never-fall, length-position-deltas, Decides, entry-0-decides, decided, decider}
 use Rattle.lxt_format.specs.Reals.{realTestAllowed}
 use Rattle.lxt_format.specs.Judge.{tablesRefusalBy, tablesRefusal, fileRefusal}
 use Rattle.lxt_format.specs.RisingTimes.{risingTableAllowed, risingTimesAllowed, risingTablesRefusal, risingRefusal, Gives, reached, before-all, KeepsRefusals, KeepsTimes, ReadsTimes, KeepsAnswers}
@@ -23,12 +25,11 @@ use Rattle.lxt_format.specs.RisingTimes.{risingTableAllowed, risingTimes
 
 -- a table that the old rule allows is allowed
 table-stays : (s : List ℕ) → risingTableAllowed s ≡ true → tableAllowed s ≡ true
-unfolding risingTableAllowed tableAllowed
+unfolding risingTableAllowed
 table-stays s h =
     let positions : Bool = all (leb 1) (drop 1 (positionDeltas s)) in
-    let times : Bool = all (leb 1) (drop 1 (timeDeltas s)) in
-    let rest : Bool = leb 4 (getD (positionsOf s) 0 0) && (all (λ p. ltb p (endOf s)) (positionsOf s) && all (λ t. leb (firstTime s) t && leb t (lastTime s)) (timesOf s)) in
-    and-both times rest (and-both positions (times && rest) h .1) .1
+    let times : Bool = all (leZ (pos 1)) (drop 1 (timeDeltas s)) in
+    and-both times (tableAllowed s) (and-both positions (times && tableAllowed s) h .1) .1
 
 times-stay : (s : List ℕ) → risingTimesAllowed s ≡ true → timesAllowed s ≡ true
 unfolding risingTimesAllowed timesAllowed
@@ -58,7 +59,7 @@ tables-keep s =
     let from13 = loosened (risingTimesAllowed s) (timesAllowed s) (14 unless realTestAllowed s) (times-stay s) in
     let from10 = after (10 unless namesAllowed s) (after (11 unless geometriesAllowed s) (after (12 unless aliasesAllowed s) from13)) in
     let from7 = after (7 unless sectionsPresent s) (after (8 unless bodiesInside s) (after (9 unless countAllowed (facilityCount s)) from10)) in
-    let from4 = after (4 unless (listingOf s .listed)) (after (5 unless nothingCompressed s) (after (6 unless not (present s 0x09)) from7)) in
+    let from4 = after (4 unless (listingOf s .listed)) (after (5 unless nothingCompressed s) (after (6 unless timesOnce s) from7)) in
     after (1 unless lengthAllowed s) (after (2 unless startsRight s) (after (3 unless endsRight s) from4))
 
 pub keeps-refusals : KeepsRefusals
@@ -80,7 +81,7 @@ rising s h i j k l =
 pub keeps-times : KeepsTimes
 unfolding risingTimesAllowed
 keeps-times s h o i (before-all e above) = rw e (entry-0-decides s o (λ j a b. above j b))
-keeps-times s h o i (reached k l highest) = last-decides s o i k l later
+keeps-times s h o i (reached k l highest) = decided s o i (record { within = k; reached = λ q. l; later = later })
   where
     table : risingTableAllowed s ≡ true
     table = let n : timeCount s ≡ 0 → ⊥ = λ e. absurd (omega arith) in simp (ne-eqb (timeCount s) 0 n) at h
@@ -93,28 +94,33 @@ keeps-times s h o i (reached k l highest) = last-decides s o i k l later
           | no q ↦ omega arith
         ]
 
--- the entry that gives the time of a change at o, where those from k on lie above o
-last-of : (s : List ℕ) (o k : ℕ) → k ≤ timeCount s → ((j : ℕ) → k ≤ j → j < timeCount s → o < getD (positionsOf s) j 0)
-    → (i : ℕ) × (Gives s o i × (timeOf s o ≡ getD (timesOf s) i 0))
-last-of s o zero l above = (0, (before-all refl (λ j b. above j (omega arith) b), entry-0-decides s o (λ j a b. above j (omega arith) b)))
-last-of s o (suc k) l above =
-    elim (decLe (getD (positionsOf s) k 0) o) [
-      | yes q ↦ (k, (reached (omega arith) q highest, last-decides s o k (omega arith) q (λ j a b. above j (omega arith) b)))
-      | no q ↦ last-of s o k (omega arith) (further q)
+-- the entry that gives a time may give it by paper 01's words
+gives : (s : List ℕ) (o i : ℕ) → Decides s o i → Gives s o i
+gives s o i d =
+    elim (decLe (getD (positionsOf s) i 0) o) [
+      | yes q ↦ reached (d .within) q highest
+      | no q ↦ before-all (first q) (above q)
     ]
   where
-    highest : (j : ℕ) → j < timeCount s → getD (positionsOf s) j 0 ≤ o → getD (positionsOf s) j 0 ≤ getD (positionsOf s) k 0
+    highest : (j : ℕ) → j < timeCount s → getD (positionsOf s) j 0 ≤ o → getD (positionsOf s) j 0 ≤ getD (positionsOf s) i 0
     highest j b r =
-        elim (decLe j k) [
-          | yes q ↦ elim (ℕ-discrete j k) [ yes e ↦ rw e (omega arith) | no n ↦ positions-never-fall s j k (omega arith) (omega arith) ]
-          | no q ↦ (let up = above j (omega arith) b in absurd (omega arith))
+        elim (decLe j i) [
+          | yes q ↦ elim (ℕ-discrete j i) [ yes e ↦ rw e (omega arith) | no n ↦ positions-never-fall s j i (omega arith) (d .within) ]
+          | no q ↦ (let up = d .later j (omega arith) b in absurd (omega arith))
         ]
 
-    further : (getD (positionsOf s) k 0 ≤ o → ⊥) → (j : ℕ) → k ≤ j → j < timeCount s → o < getD (positionsOf s) j 0
-    further q j a b = elim (ℕ-discrete j k) [ yes e ↦ rw e (omega arith) | no n ↦ above j (omega arith) b ]
+    first : (getD (positionsOf s) i 0 ≤ o → ⊥) → i ≡ 0
+    first q = elim (decLe i 0) [ yes z ↦ omega arith | no z ↦ (let r = d .reached (omega arith) in absurd (omega arith)) ]
+
+    above : (getD (positionsOf s) i 0 ≤ o → ⊥) → (j : ℕ) → j < timeCount s → o < getD (positionsOf s) j 0
+    above q j b = elim (ℕ-discrete j i) [ yes e ↦ rw e (omega arith) | no n ↦ d .later j (omega (arith, first q)) b ]
 
 pub reads-times : ReadsTimes
-reads-times s o = last-of s o (timeCount s) (omega arith) (λ j a b. absurd (omega arith))
+reads-times s o =
+    elim (ℕ-discrete (timeCount s) 0) [
+      | yes e ↦ (0, (before-all refl (λ j b. absurd (omega arith)), entry-0-decides s o (λ j a b. absurd (omega arith))))
+      | no n ↦ (let d = decider s o (omega arith) in (d .0, (gives s o (d .0) (d .1), decided s o (d .0) (d .1))))
+    ]
 
 -- ---- answers
 

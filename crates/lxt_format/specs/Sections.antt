@@ -71,12 +71,31 @@ endOf s = listingOf s .end
 unfoldable pub changesFrom : List ℕ → ℕ
 changesFrom s = sectionOf s 0x01
 
--- n, the count of facilities that heads the names, and m, the count of time entries that heads the times
+-- n, the count of facilities that heads the names
 unfoldable pub facilityCount : List ℕ → ℕ
 facilityCount s = u32At s (sectionOf s 0x03)
 
+-- ---- the table of times: of tag 06, or as paper 02, Ask 1, has it: "Read tag 09"
+
+-- whether it is that of tag 09; refusals 6 and 7 leave one of the two
+unfoldable pub wideTimes : List ℕ → Bool
+wideTimes s = present s 0x09
+
+-- where it starts
+unfoldable pub timesAt : List ℕ → ℕ
+timesAt s = if wideTimes s then sectionOf s 0x09 else sectionOf s 0x06
+
+-- the bytes of a time: in 06 "4 bytes each"; in 09 "first and last (8 bytes each ..) .. m time deltas of 8 bytes"
+abbrev pub timeBytes : Bool → ℕ
+timeBytes wide = if wide then 8 else 4
+
+-- m, the count of time entries that heads it
 unfoldable pub timeCount : List ℕ → ℕ
-timeCount s = u32At s (sectionOf s 0x06)
+timeCount s = u32At s (timesAt s)
+
+-- the bytes of a table of m entries: "count m (4 bytes), first and last .., m position deltas of 4 bytes, m time deltas"
+abbrev pub timesSize : Bool → ℕ → ℕ
+timesSize wide m = 4 + 2 * timeBytes wide + 4 * m + timeBytes wide * m
 
 -- ---- refusals 5 to 9
 
@@ -84,30 +103,34 @@ timeCount s = u32At s (sectionOf s 0x06)
 unfoldable pub nothingCompressed : List ℕ → Bool
 nothingCompressed s = not (any (present s) (range 0x0A 9))
 
--- 7: "01, 02, 03, 04 or 06 absent"
+-- 6, as Ask 1 has it: "both 06 and 09 count with values other than 0"
+unfoldable pub timesOnce : List ℕ → Bool
+timesOnce s = not (present s 0x06 && present s 0x09)
+
+-- 7: "01, 02, 03, 04 or 06 absent", and with Ask 1 "refusal 7 wants one of them", 06 or 09
 unfoldable pub sectionsPresent : List ℕ → Bool
-sectionsPresent s = all (present s) (0x01 ∷ 0x02 ∷ 0x03 ∷ 0x04 ∷ 0x06 ∷ [])
+sectionsPresent s = all (present s) (0x01 ∷ 0x02 ∷ 0x03 ∷ 0x04 ∷ []) && (present s 0x06 || present s 0x09)
 
 -- "Bodies lie between offset 4 and T."
 abbrev pub inside : ℕ → ℕ → ℕ → Bool
 inside T start size = leb 4 start && leb (start + size) T
 
 -- the bytes that refusal 8 asks of each section: "of 03 only the 8-byte head"; 02 has 4 bytes per facility, 04 has 16,
--- 05 and 07 have 1, 06 has three counts and two deltas of 4 bytes for each entry
+-- 05 and 07 have 1, the times have theirs
 unfoldable pub bodySize : List ℕ → ℕ → ℕ
 bodySize s tag =
     if eqb tag 0x02 then 4 * facilityCount s
     else if eqb tag 0x03 then 8
     else if eqb tag 0x04 then 16 * facilityCount s
-    else if eqb tag 0x06 then 12 + 8 * timeCount s
+    else if eqb tag 0x06 || eqb tag 0x09 then timesSize (wideTimes s) (timeCount s)
     else 1
 
--- 8: "one of 02 to 07 that is present starts below 4, or its body passes T, or C is outside 4 to T"
+-- 8: "one of 02 to 07 that is present starts below 4, or its body passes T, or C is outside 4 to T"; Ask 1: "Refusal 8 covers the body of 09."
 unfoldable pub bodyInside : List ℕ → ℕ → Bool
 bodyInside s tag = not (present s tag) || inside (endOf s) (sectionOf s tag) (bodySize s tag)
 
 unfoldable pub bodiesInside : List ℕ → Bool
-bodiesInside s = all (bodyInside s) (range 0x02 6) && inside (endOf s) (changesFrom s) 0
+bodiesInside s = all (bodyInside s) (range 0x02 6) && (bodyInside s 0x09 && inside (endOf s) (changesFrom s) 0)
 
 -- 9: "n above 4,096"
 unfoldable pub countAllowed : ℕ → Bool

@@ -1,7 +1,7 @@
 -- Laws of the section list and of the bounds that refusals 1 to 9 give.
 use Prim.Native.Nat.{ℕ, zero, suc, _+_, _*_, _-_, _≤_, _<_}
-use mathlib.Core.Path.{_≡_, refl}
-use mathlib.Core.Bool.{true, false, not, false≢true}
+use mathlib.Core.Path.{_≡_, refl, sym, _∙_}
+use mathlib.Core.Bool.{true, false, not, _&&_, _||_, false≢true}
 use mathlib.Core.List.{List, [], _∷_}
 use lib.ListN.{length}
 use lib.Dec.{ltb, eqb}
@@ -12,7 +12,7 @@ use Rattle.lxt_format.specs.Limits.{shortestFile}
 use Rattle.lxt_format.specs.Basics.{range, all}
 use Rattle.lxt_format.specs.BasicsLaws.{and-both, all-range, or-either, on-test}
 use Rattle.lxt_format.specs.Bytes.{byteAt, u32At}
-use Rattle.lxt_format.specs.Sections.{Item, Listing, unlisted, listFrom, listingOf, sectionOf, present, endOf, changesFrom, facilityCount, timeCount, inside, sectionsPresent, bodySize, bodyInside, bodiesInside}
+use Rattle.lxt_format.specs.Sections.{Item, Listing, unlisted, listFrom, listingOf, sectionOf, present, endOf, changesFrom, facilityCount, wideTimes, timesAt, timeCount, timesSize, inside, sectionsPresent, bodySize, bodyInside, bodiesInside}
 
 -- ---- the section list from the tag at p on
 
@@ -89,34 +89,49 @@ end-inside s h = end-bounds (length s) s (length s - 2) [] h
 -- ---- what refusals 7 and 8 give
 
 present-all : (s : List ℕ) → sectionsPresent s ≡ true
-    → (present s 0x01 ≡ true) × ((present s 0x02 ≡ true) × ((present s 0x03 ≡ true) × ((present s 0x04 ≡ true) × (present s 0x06 ≡ true))))
+    → (present s 0x01 ≡ true) × ((present s 0x02 ≡ true) × ((present s 0x03 ≡ true) × ((present s 0x04 ≡ true) × ((present s 0x06 || present s 0x09) ≡ true))))
 unfolding sectionsPresent all
 present-all s h =
-    let a = and-both _ _ h in
+    let e = and-both (all (present s) (0x01 ∷ 0x02 ∷ 0x03 ∷ 0x04 ∷ [])) (present s 0x06 || present s 0x09) h in
+    let a = and-both _ _ (e .0) in
     let b = and-both _ _ (a .1) in
     let c = and-both _ _ (b .1) in
     let d = and-both _ _ (c .1) in
-    let e = and-both _ _ (d .1) in
-    (a .0, (b .0, (c .0, (d .0, e .0))))
+    (a .0, (b .0, (c .0, (d .0, e .1))))
 
--- the body of a section that is there lies inside
-pub body-inside : (s : List ℕ) (tag : ℕ) → bodiesInside s ≡ true → 0x02 ≤ tag → tag < 0x08 → present s tag ≡ true
-    → (4 ≤ sectionOf s tag) × (sectionOf s tag + bodySize s tag ≤ endOf s)
-unfolding bodiesInside bodyInside
-body-inside s tag h a b there =
-    let both = and-both (all (bodyInside s) (range 0x02 6)) (inside (endOf s) (changesFrom s) 0) h in
-    let one = all-range (bodyInside s) 0x02 6 (both .0) tag a (omega arith) in
-    or-either (not (present s tag)) _ one (λ e. absurd (false≢true (rw there at e)))
+-- a section that is there lies inside where its body does
+is-inside : (s : List ℕ) (tag : ℕ) → bodyInside s tag ≡ true → present s tag ≡ true → (4 ≤ sectionOf s tag) × (sectionOf s tag + bodySize s tag ≤ endOf s)
+unfolding bodyInside
+is-inside s tag h there =
+    or-either (not (present s tag)) _ h (λ e. absurd (false≢true (rw there at e)))
     (λ e. let i = and-both _ _ e in (leb-true _ _ (i .0), leb-true _ _ (i .1)))
 
-changes-inside : (s : List ℕ) → bodiesInside s ≡ true → (4 ≤ changesFrom s) × (changesFrom s + 0 ≤ endOf s)
+-- what refusal 8 tests: the bodies of 02 to 07, that of 09, and C
+bodies-parts : (s : List ℕ) → bodiesInside s ≡ true
+    → (all (bodyInside s) (range 0x02 6) ≡ true) × ((bodyInside s 0x09 ≡ true) × (inside (endOf s) (changesFrom s) 0 ≡ true))
 unfolding bodiesInside
-changes-inside s h =
-    let both = and-both (all (bodyInside s) (range 0x02 6)) (inside (endOf s) (changesFrom s) 0) h in
-    let i = and-both _ _ (both .1) in
-    (leb-true _ _ (i .0), leb-true _ _ (i .1))
+bodies-parts s h =
+    let a = and-both (all (bodyInside s) (range 0x02 6)) (bodyInside s 0x09 && inside (endOf s) (changesFrom s) 0) h in
+    (a .0, and-both (bodyInside s 0x09) (inside (endOf s) (changesFrom s) 0) (a .1))
 
--- The bounds of a file that refusals 1 to 8 pass: C, and the bodies of 02, 03 (its head), 04 and 06
+pub body-inside : (s : List ℕ) (tag : ℕ) → bodiesInside s ≡ true → 0x02 ≤ tag → tag < 0x08 → present s tag ≡ true
+    → (4 ≤ sectionOf s tag) × (sectionOf s tag + bodySize s tag ≤ endOf s)
+body-inside s tag h a b there = is-inside s tag (all-range (bodyInside s) 0x02 6 (bodies-parts s h .0) tag a (omega arith)) there
+
+-- the table of times lies inside, that of 06 or that of 09
+times-inside : (s : List ℕ) → bodiesInside s ≡ true → (present s 0x06 || present s 0x09) ≡ true
+    → (4 ≤ timesAt s) × (timesAt s + timesSize (wideTimes s) (timeCount s) ≤ endOf s)
+unfolding wideTimes timesAt bodySize
+times-inside s h one =
+    on-test (present s 0x09)
+    (λ wide. let i = is-inside s 0x09 (bodies-parts s h .1 .0) wide in rw wide (rw wide at i))
+    (λ no. let six : present s 0x06 ≡ true = or-either (present s 0x06) (present s 0x09) one (λ e. e) (λ e. absurd (false≢true (sym no ∙ e))) in
+    let i = body-inside s 0x06 h (omega arith) (omega arith) six in rw no (rw no at i))
+
+changes-inside : (s : List ℕ) → bodiesInside s ≡ true → (4 ≤ changesFrom s) × (changesFrom s + 0 ≤ endOf s)
+changes-inside s h = let i = and-both _ _ (bodies-parts s h .1 .1) in (leb-true _ _ (i .0), leb-true _ _ (i .1))
+
+-- The bounds of a file that refusals 1 to 8 pass: C, and the bodies of 02, 03 (its head), 04 and the times
 pub record Located (s : List ℕ) : Type 0 where
   pub end-low : 4 ≤ endOf s
   pub end-high : endOf s + 2 ≤ length s
@@ -128,8 +143,8 @@ pub record Located (s : List ℕ) : Type 0 where
   pub names-high : sectionOf s 0x03 + 8 ≤ endOf s
   pub geometry-low : 4 ≤ sectionOf s 0x04
   pub geometry-high : sectionOf s 0x04 + 16 * facilityCount s ≤ endOf s
-  pub times-low : 4 ≤ sectionOf s 0x06
-  pub times-high : sectionOf s 0x06 + (12 + 8 * timeCount s) ≤ endOf s
+  pub times-low : 4 ≤ timesAt s
+  pub times-high : timesAt s + timesSize (wideTimes s) (timeCount s) ≤ endOf s
 
 pub located : (s : List ℕ) → shortestFile ≤ length s → listingOf s .listed ≡ true → sectionsPresent s ≡ true → bodiesInside s ≡ true → Located s
 unfolding bodySize
@@ -140,7 +155,7 @@ located s long listed there h =
     let two = body-inside s 0x02 h (omega arith) (omega arith) (p .1 .0) in
     let three = body-inside s 0x03 h (omega arith) (omega arith) (p .1 .1 .0) in
     let four = body-inside s 0x04 h (omega arith) (omega arith) (p .1 .1 .1 .0) in
-    let six = body-inside s 0x06 h (omega arith) (omega arith) (p .1 .1 .1 .1) in
+    let times = times-inside s h (p .1 .1 .1 .1) in
     record {
       end-low = T .0;
       end-high = omega arith;
@@ -152,6 +167,6 @@ located s long listed there h =
       names-high = three .1;
       geometry-low = four .0;
       geometry-high = four .1;
-      times-low = six .0;
-      times-high = six .1;
+      times-low = times .0;
+      times-high = times .1;
     }

@@ -3,7 +3,9 @@ use Prim.Native.Nat.{ℕ, _-_, max}
 use mathlib.Core.List.{List, [], _∷_, map}
 use lib.ListN.{getD, replicate}
 use lib.Seq.{slice}
-use lib.Dec.{leb, eqb}
+use lib.IntN.{ℤ}
+use lib.Signed.{leZ}
+use lib.Dec.{eqb}
 use lib.Ieee.{Float}
 use Rattle.lxt_format.specs.Basics.{if_then_else_}
 use Rattle.lxt_format.specs.Bytes.{toZero}
@@ -48,11 +50,11 @@ unfoldable pub contentOf : List ℕ → ℕ → ℕ → Content
 contentOf s f o = contentBy s (ownFacts s f .kind) (ownFacts s f .width) o
 
 -- "At a time t .., the value is that of the change of highest offset with time ≤ t": that offset among the offsets os, or 0 where there is none
-unfoldable pub latestAt : List ℕ → ℕ → List ℕ → ℕ
+unfoldable pub latestAt : List ℕ → ℤ → List ℕ → ℕ
 latestAt s t [] = 0
-latestAt s t (o ∷ os) = if leb (timeOf s o) t then max o (latestAt s t os) else latestAt s t os
+latestAt s t (o ∷ os) = if leZ (timeOf s o) t then max o (latestAt s t os) else latestAt s t os
 
-unfoldable pub changeAt : List ℕ → ℕ → ℕ → ℕ
+unfoldable pub changeAt : List ℕ → ℕ → ℤ → ℕ
 changeAt s f t = latestAt s t (chainOf s (syncOf s f))
 
 -- "Where there is none, bits and integers show the initial symbol at every place, and reals and texts answer "not driven"."
@@ -63,7 +65,7 @@ initialBy s Real width = notDriven
 initialBy s Text width = notDriven
 
 -- the value of the root f at the time t
-unfoldable pub contentAt : List ℕ → ℕ → ℕ → Content
+unfoldable pub contentAt : List ℕ → ℕ → ℤ → Content
 contentAt s f t =
     if eqb (changeAt s f t) 0 then initialBy s (ownFacts s f .kind) (ownFacts s f .width)
     else contentOf s f (changeAt s f t)

@@ -4,6 +4,7 @@ use mathlib.Core.Path.{refl}
 use mathlib.Core.Bool.{true, false}
 use mathlib.Core.List.{List, [], _∷_, _++_, map}
 use lib.ListN.{length, take, drop}
+use lib.IntN.{pos}
 use Rattle.lxt_format.specs.Basics.{given, refused, joined}
 use Rattle.lxt_format.specs.Judge.{fileRefusal}
 use Rattle.lxt_format.specs.RisingTimes.{risingRefusal}
@@ -65,17 +66,17 @@ shown s = ((risingRefusal s, fileRefusal s), said s 6, said s 4)
 -- refused 13 by the old rule and accepted by the new one; the newer change, 0, and the older, 1, have these times
 abbrev accepted : ℕ → ℕ → (ℕ × ℕ) × (Timed × List ℕ) × (Timed × List ℕ)
 accepted newer older =
-    ((13, 0), (record { time = newer; value = given (bitsOf 1); clean = true }, 0x30 ∷ []), (record { time = older; value = given (bitsOf 1); clean = true }, 0x31 ∷ []))
+    ((13, 0), (record { time = pos newer; value = given (bitsOf 1); clean = true }, 0x30 ∷ []), (record { time = pos older; value = given (bitsOf 1); clean = true }, 0x31 ∷ []))
 
 -- refused 13 by both, and so is each question, which changes nothing lent
 abbrev refused13 : (ℕ × ℕ) × (Timed × List ℕ) × (Timed × List ℕ)
 refused13 =
-    let no : Timed × List ℕ = (record { time = 0; value = refused 13; clean = false }, 0xFF ∷ []) in
+    let no : Timed × List ℕ = (record { time = pos 0; value = refused 13; clean = false }, 0xFF ∷ []) in
     ((13, 13), no, no)
 
 -- the symbols at these times
 abbrev shownAt : List ℕ → List ℕ → List ℕ
-shownAt s times = joined (λ t. valueBuffer s 0 t (0xFF ∷ [])) times
+shownAt s times = joined (λ t. valueBuffer s 0 (pos t) (0xFF ∷ [])) times
 
 -- rows 0xA to 0x12 are about the examples 2-A to 2-I
 pub zeroDeltas : List Row

@@ -162,7 +162,7 @@ pub enum Value {
 // A change's time and value, and whether its unused bits are 0. Where the value says "refused" these
 // are 0 and no.
 pub struct TimedValue {
-    pub time: u32,
+    pub time: i64,
     pub value: Value,
     pub clean: bool,
 }

@@ -1,14 +1,16 @@
 -- Laws of lines: texts put one after the other, and what each line asks of an accepted file.
-use Prim.Native.Nat.{ℕ, _≤_, _<_}
+use Prim.Native.Nat.{ℕ, suc, _-_, _≤_, _<_}
 use native.Mathlib.Omega.{arith}
 use mathlib.Core.Path.{_≡_, refl, sym, ap, _∙_}
 use mathlib.Core.Bool.{Bool, true, false}
 use mathlib.Core.List.{List, [], _∷_, _++_, append-assoc}
 use lib.ListN.{length, length-append}
+use borrow.Author.Tests.{lt-ltb, le-ltb}
 use Rattle.lxt_format.specs.Basics.{if_then_else_}
 use Rattle.lxt_format.specs.Changes.{digits}
 use Rattle.lxt_format.specs.Columns.{onto}
 use Rattle.lxt_format.specs.Sections.{facilityCount}
+use Rattle.lxt_format.specs.BiasedTimes.{bias, unbiased}
 use Rattle.lxt_format.specs.Names.{nameOf, nameTable}
 use Rattle.lxt_format.specs.NamesLaws.{names-short}
 use Rattle.lxt_format.specs.Geometry.{isAlias, rootOf, ownFacts, geometryAllowed}
@@ -18,7 +20,7 @@ use Rattle.lxt_format.specs.declared.Facts.{Facts}
 use Rattle.lxt_tables.specs.Stage.{Geometry}
 use Rattle.lxt_tables.specs.declared.Tables.{Tables}
 use Rattle.lxt_tables.proofs.TablesLaws.{Known, tables-known, entry-allowed}
-use Rattle.lxt_print.specs.Lines.{decimal, space, newline, facilityWord, doneWord, refusedWord, aliasWord, kindWord, facilityLine, doneLine, refusedLine}
+use Rattle.lxt_print.specs.Lines.{decimal, signedDecimal, space, newline, facilityWord, doneWord, refusedWord, aliasWord, kindWord, facilityLine, doneLine, refusedLine}
 use Rattle.lxt_print.specs.Placing.{placed, Opened, Put, facilityHead, facilityEnd}
 use Rattle.lxt_print.proofs.TextLaws.{length-placed, placed-more, placed-start}
 
@@ -59,6 +61,15 @@ module _ (k : ℕ) where
       → (0x66 ∷ 0x61 ∷ 0x63 ∷ 0x69 ∷ 0x6C ∷ 0x69 ∷ 0x74 ∷ 0x79 ∷ 0x20 ∷ []) ++ (decimal k ++ (0x20 ∷ [])) ++ name ++ (0x20 ∷ []) ≡ facilityHead k name
   unfolding facilityHead facilityWord digits
   facility-text name = ap (λ l. l ++ name ++ (0x20 ∷ [])) (sym (append-assoc (facilityWord ++ space) (decimal k) space))
+
+-- a time with its bias, with "-" where it is negative
+pub negative-text : (x : ℕ) → x < bias → (0x2D ∷ []) ++ decimal (bias - x) ≡ signedDecimal (unbiased x)
+unfolding signedDecimal
+negative-text x h = let e : suc (bias - suc x) ≡ bias - x = omega arith in rw (lt-ltb x bias h, e)
+
+pub positive-text : (x : ℕ) → bias ≤ x → decimal (x - bias) ≡ signedDecimal (unbiased x)
+unfolding signedDecimal
+positive-text x h = rw (le-ltb x bias h)
 
 module _ (kind : Kind) where
   pub bits-word : kind ≡ Bits → (0x62 ∷ 0x69 ∷ 0x74 ∷ 0x73 ∷ []) ≡ kindWord kind

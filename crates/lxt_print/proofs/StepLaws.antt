@@ -40,8 +40,7 @@ use Rattle.lxt_chains.proofs.ApartLaws.{pending-roots, root-changes}
 use Rattle.lxt_values.specs.Times as Ti
 use Rattle.lxt_values.specs.Entries.{EntryAt, Latest}
 use Rattle.lxt_values.specs.declared.entries.Entry.{Entry}
-use Rattle.lxt_values.proofs.TimeLaws.{time-fits}
-use Rattle.lxt_print.specs.Lines.{decimal, space, newline, changeWord, valueText, changeLine}
+use Rattle.lxt_print.specs.Lines.{decimal, signedDecimal, space, newline, changeWord, valueText, changeLine}
 use Rattle.lxt_print.specs.Placing.{Opened}
 use Rattle.lxt_print.specs.Stepping.{left, allLeft, Waiting, Last, Timed, nextLine}
 use Rattle.lxt_print.proofs.LineLaws.{opened-known}
@@ -72,7 +71,7 @@ module _ (s os : List ℕ) where
 pub line-some : (s : List ℕ) (p : Pair) → 0 < length (changeLine s p)
 unfolding changeLine
 line-some s p =
-    let l : List ℕ = changeWord ++ space ++ decimal (p .number) ++ space ++ decimal (p .offset) ++ space ++ decimal (timeOf s (p .offset)) ++ space in
+    let l : List ℕ = changeWord ++ space ++ decimal (p .number) ++ space ++ decimal (p .offset) ++ space ++ signedDecimal (timeOf s (p .offset)) ++ space in
     let e = length-append (l ++ valueText s (contentOf s (p .number) (p .offset))) newline in
     omega arith
 
@@ -119,7 +118,7 @@ module _ (s : List ℕ) (t : Tables) (w : Opened s t) where
   pub no-entries : t .«time_count» ≡ 0 → (e : Entry) → Last s e
   no-entries z e = let k = opened-known s t w in record { latest = λ h. absurd (omega (arith, k .time-count)) }
 
-  pub last-asks : (t .«time_count» ≡ 0 → ⊥) → Ti.Times s (t .times) (t .«time_count») × (0 < t .«time_count»)
+  pub last-asks : (t .«time_count» ≡ 0 → ⊥) → Ti.Times s (t .times) (t .«time_count») (t .«wide_times») × (0 < t .«time_count»)
   last-asks n = (times-there s t w, omega arith)
 
   pub last-is : (e : Entry) → EntryAt s (e .number) (e .position) (e .time) → e .number + 1 ≡ t .«time_count» → Last s e
@@ -207,11 +206,8 @@ module _ (s : List ℕ) (t : Tables) (w : Opened s t) (m : ℕ) (nodes : List �
       pub number-small : f < 4294967296
       number-small = let b = number-below in let k = opened-known s t w .few in omega arith
 
-      pub down-asks : (e : Entry) → Timed s (drop m nodes) e → Ti.Times s (t .times) (t .«time_count») × Latest s o (e .number) (e .position) (e .time)
+      pub down-asks : (e : Entry) → Timed s (drop m nodes) e → Ti.Times s (t .times) (t .«time_count») (t .«wide_times») × Latest s o (e .number) (e .position) (e .time)
       down-asks e v = (times-there s t w, rw eo (v .latest positive))
-
-      pub time-small : AreBytes s → (x : ℕ) → x ≡ timeOf s o → x < 4294967296
-      time-small b x ex = let f = time-fits s (t .times) (t .«time_count») (times-there s t w) b o in omega arith
 
       -- its line is put, and the others are left
       pub stepped : (nodes′ : List ℕ) → Tree m nodes′ → drop m nodes′ ≡ offsetsAfter s 1 (drop m nodes) → (e : Entry) → Latest s o (e .number) (e .position) (e .time)

@@ -147,7 +147,7 @@ within-low (suc k) n =
 
 pub decimal-low : (n : ℕ) → decimal n ≡ low (length (decimal n)) n
 unfolding decimal
-decimal-low n = within-low 10 n
+decimal-low n = within-low 20 n
 
 -- how many digits a number has above its last
 unfoldable pub counted : ℕ → ℕ → ℕ
@@ -174,15 +174,15 @@ tens (suc k) = 10 * tens k
 
 -- k digits are counted, and `rest` holds those that are left
 pub record Counting (n k rest : ℕ) : Type 0 where
-  pub same : k + counted (10 - k) rest ≡ length (decimal n)
-  pub fits : rest < tens (10 - k)
-  pub most : k ≤ 10
+  pub same : k + counted (20 - k) rest ≡ length (decimal n)
+  pub fits : rest < tens (20 - k)
+  pub most : k ≤ 20
 
-pub count-begun : (n : ℕ) → n < 4294967296 → Counting n 1 (n / 10)
+pub count-begun : (n : ℕ) → n < 18446744073709551616 → Counting n 1 (n / 10)
 unfolding decimal
 count-begun n h =
     record {
-      same = let e = more-digits 9 n in omega arith;
+      same = let e = more-digits 19 n in omega arith;
       fits = unfold tens in omega arith;
       most = omega arith;
     }
@@ -193,19 +193,19 @@ module _ (n k rest : ℕ) (w : Counting n k rest) where
   count-turn h =
       let m = w .most in
       let f = w .fits in
-      let below : k < 10 = elim (decLe 10 k) [
-        | yes q ↦ (let z : 10 - k ≡ 0 = omega arith in let g : rest < tens 0 = rw z at f in absurd (omega arith))
+      let below : k < 20 = elim (decLe 20 k) [
+        | yes q ↦ (let z : 20 - k ≡ 0 = omega arith in let g : rest < tens 0 = rw z at f in absurd (omega arith))
         | no q ↦ omega arith
       ] in
-      let e : 10 - k ≡ suc (10 - (k + 1)) = omega arith in
-      let one : counted (10 - k) rest ≡ suc (counted (10 - (k + 1)) (rest / 10)) =
-      rw e (counted-more (10 - (k + 1)) rest h) in
+      let e : 20 - k ≡ suc (20 - (k + 1)) = omega arith in
+      let one : counted (20 - k) rest ≡ suc (counted (20 - (k + 1)) (rest / 10)) =
+      rw e (counted-more (20 - (k + 1)) rest h) in
       let s = w .same in
-      let g : rest < tens (suc (10 - (k + 1))) = rw e at f in
-      let g2 : rest < 10 * tens (10 - (k + 1)) = g in
+      let g : rest < tens (suc (20 - (k + 1))) = rw e at f in
+      let g2 : rest < 10 * tens (20 - (k + 1)) = g in
       record { same = omega arith; fits = omega arith; most = omega arith }
 
-  pub count-ended : rest ≤ 0 → (k ≡ length (decimal n)) × (k ≤ 10)
+  pub count-ended : rest ≤ 0 → (k ≡ length (decimal n)) × (k ≤ 20)
   unfolding counted
   count-ended h =
       let z : rest ≡ 0 = omega arith in
@@ -219,7 +219,7 @@ pub record Storing (b : List ℕ) (at n : ℕ) (b′ : List ℕ) (i rest : ℕ) 
   pub room : i ≤ length b
   pub long : length b′ ≡ length b
 
-pub store-begun : (b : List ℕ) (at n k : ℕ) → k ≡ length (decimal n) → k ≤ 10 → at + 10 ≤ length b → Storing b at n b (at + k) n
+pub store-begun : (b : List ℕ) (at n k : ℕ) → k ≡ length (decimal n) → k ≤ 20 → at + 20 ≤ length b → Storing b at n b (at + k) n
 store-begun b at n k e m h =
     let z : at + k - at ≡ length (decimal n) = omega arith in
     let d : low (at + k - at) n ≡ decimal n = rw z (sym (decimal-low n)) in

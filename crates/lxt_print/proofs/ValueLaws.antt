@@ -7,6 +7,7 @@ use mathlib.Core.Bool.{true, false}
 use mathlib.Core.List.{List, [], _∷_, _++_, append-assoc, append-nil}
 use lib.ListN.{length, take, drop, length-drop}
 use lib.Seq.{take-length, drop-length, drop-drop, slice}
+use lib.IntN.{ℤ}
 use lib.Ieee.{Float}
 use Rattle.lxt_format.specs.Limits.{widestFacility}
 use Rattle.lxt_format.specs.Basics.{Answer, given, refused}
@@ -14,6 +15,7 @@ use Rattle.lxt_format.specs.Sections.{facilityCount, endOf}
 use Rattle.lxt_format.specs.Bytes.{toZero}
 use Rattle.lxt_format.specs.Geometry.{isAlias, ownFacts, geometryAllowed}
 use Rattle.lxt_format.specs.Times.{timeOf}
+use Rattle.lxt_format.specs.BiasedTimes.{biased, unbiased, unbiased-biased}
 use Rattle.lxt_format.specs.Changes.{digits, dataAt, dataSize, changeEnd}
 use Rattle.lxt_format.specs.Values.{Content, bits, real, text, notDriven, contentBy, contentOf}
 use Rattle.lxt_format.specs.Answers.{Shown, bitsOf, realOf, textOf, nothing, shown, valueSays}
@@ -28,34 +30,40 @@ use Rattle.lxt_tables.specs.declared.Tables.{Tables}
 use Rattle.lxt_tables.proofs.TablesLaws.{width-most, has-real, real-order}
 use Rattle.lxt_values.specs.Reals.{order-places}
 use Rattle.lxt_values.specs.Times as Ti
+use Rattle.lxt_values.proofs.TimeLaws.{any-time-fits}
 use Rattle.lxt_chains.specs.Pending.{pairOf, Allowed}
 use Rattle.lxt_chains.proofs.Accepted.{allowed-sound}
 use Rattle.lxt_values.specs.Value.{Readies}
 use Rattle.lxt_values.proofs.ReadLaws.{symbols-long, bits-drawn, integer-drawn}
-use Rattle.lxt_print.specs.Lines.{decimal, space, changeWord, hexBytes, valueText, changeLine}
+use Rattle.lxt_print.specs.Lines.{decimal, signedDecimal, space, changeWord, hexBytes, valueText, changeLine}
 use Rattle.lxt_print.specs.Placing.{placed, Opened, Put, changeHead}
 use Rattle.lxt_print.proofs.TextLaws.{placed-none}
 use Rattle.lxt_print.proofs.LineLaws.{opened-known, own-asks}
 
 -- ---- the head and the whole line
 
-pub times-there : (s : List ℕ) (t : Tables) → Opened s t → Ti.Times s (t .times) (t .«time_count»)
+pub times-there : (s : List ℕ) (t : Tables) → Opened s t → Ti.Times s (t .times) (t .«time_count») (t .«wide_times»)
 times-there s t w =
     let k = opened-known s t w in
-    record { start = k .times; count = k .time-count; inside = omega (arith, k .times-at .inside); allowed = k .passed .times }
+    record { start = k .times; count = k .time-count; form = k .wide; inside = k .times-at .inside; end = omega (arith, k .end-high); allowed = k .passed .times }
 
-pub change-text : (f o x : ℕ)
-    → (0x63 ∷ 0x68 ∷ 0x61 ∷ 0x6E ∷ 0x67 ∷ 0x65 ∷ 0x20 ∷ []) ++ (decimal f ++ (0x20 ∷ [])) ++ (decimal o ++ (0x20 ∷ [])) ++ (decimal x ++ (0x20 ∷ [])) ≡ changeHead f o x
+pub change-text : (f o : ℕ) (x : ℤ)
+    → (0x63 ∷ 0x68 ∷ 0x61 ∷ 0x6E ∷ 0x67 ∷ 0x65 ∷ 0x20 ∷ []) ++ (decimal f ++ (0x20 ∷ [])) ++ (decimal o ++ (0x20 ∷ [])) ++ signedDecimal x ++ (0x20 ∷ []) ≡ changeHead f o x
 unfolding changeHead changeWord digits
 change-text f o x =
     let a : List ℕ = changeWord ++ space in
-    sym (append-assoc (a ++ (decimal f ++ space) ++ (decimal o ++ space)) (decimal x) space)
-    ∙ ap (λ l. l ++ decimal x ++ space)
+    ap (λ l. l ++ signedDecimal x ++ space)
     (sym (append-assoc (a ++ (decimal f ++ space)) (decimal o) space) ∙ ap (λ l. l ++ decimal o ++ space) (sym (append-assoc a (decimal f) space)))
 
-pub change-line : (s : List ℕ) (f o x : ℕ) → x ≡ timeOf s o → changeHead f o x ++ valueText s (contentOf s f o) ++ (0x0A ∷ []) ≡ changeLine s (pairOf f o)
+-- the time with its bias is that of the change
+time-is : (s : List ℕ) (t : Tables) → Opened s t → (o x : ℕ) → x ≡ biased (timeOf s o) → unbiased x ≡ timeOf s o
+time-is s t w o x e =
+    ap unbiased e ∙ unbiased-biased (timeOf s o) (any-time-fits s (t .times) (t .«time_count») (t .«wide_times») (times-there s t w) o)
+
+pub change-line : (s : List ℕ) (t : Tables) → Opened s t → (f o x : ℕ) → x ≡ biased (timeOf s o)
+    → changeHead f o (unbiased x) ++ valueText s (contentOf s f o) ++ (0x0A ∷ []) ≡ changeLine s (pairOf f o)
 unfolding changeHead changeLine
-change-line s f o x e = rw e
+change-line s t w f o x e = rw (time-is s t w o x e)
 
 -- ---- what reading the value asks
 

@@ -11,7 +11,7 @@ use Rattle.lxt_format.specs.Everything.{everything}
 use Rattle.lxt_format.specs.Traces.{spelled, trace}
 use Rattle.lxt_format.specs.Examples.{Row, row, Holds}
 use Rattle.lxt_format.specs.ZeroDeltas.{tabled, exampleA, exampleB, exampleC, exampleD, exampleE, exampleF, exampleG, exampleH, exampleI}
-use Rattle.lxt_print.specs.Lines.{decimalWithin, decimal, hexDigit, hexByte, hexBytes, facilityWord, changeWord, doneWord, refusedWord, aliasWord, kindWord, facilityLine, valueText, changeLine, doneLine, refusedLine, acceptedText, printRefusal, printed}
+use Rattle.lxt_print.specs.Lines.{decimalWithin, decimal, signedDecimal, hexDigit, hexByte, hexBytes, facilityWord, changeWord, doneWord, refusedWord, aliasWord, kindWord, facilityLine, valueText, changeLine, doneLine, refusedLine, acceptedText, printRefusal, printed}
 
 -- "facility 0 a bits 1", "change 0 6 5 0", "change 0 4 0 1", "done 2"
 abbrev four-lines : List ℕ
@@ -22,7 +22,7 @@ four-lines =
     ++ spelled 7 0x646F6E6520320A
 
 pub prints-four-lines : printed trace ≡ four-lines
-unfolding everything trace spelled decimalWithin decimal hexDigit hexByte hexBytes facilityWord changeWord doneWord refusedWord aliasWord kindWord facilityLine valueText changeLine doneLine refusedLine acceptedText printRefusal printed
+unfolding everything trace spelled decimalWithin decimal signedDecimal hexDigit hexByte hexBytes facilityWord changeWord doneWord refusedWord aliasWord kindWord facilityLine valueText changeLine doneLine refusedLine acceptedText printRefusal printed
 prints-four-lines = refl
 
 -- the small trace with other time tables: the printed lines of the examples 2-A to 2-I of paper 02, Ask 2. The times of its changes stand in them as one
@@ -51,7 +51,7 @@ zeroDeltas =
     ∷ []
 
 pub zero-deltas-printed : Holds zeroDeltas
-unfolding everything trace spelled tabled decimalWithin decimal hexDigit hexByte hexBytes facilityWord changeWord doneWord refusedWord aliasWord kindWord facilityLine valueText changeLine doneLine refusedLine acceptedText printRefusal printed zeroDeltas
+unfolding everything trace spelled tabled decimalWithin decimal signedDecimal hexDigit hexByte hexBytes facilityWord changeWord doneWord refusedWord aliasWord kindWord facilityLine valueText changeLine doneLine refusedLine acceptedText printRefusal printed zeroDeltas
 zero-deltas-printed = (refl, (refl, (refl, (refl, (refl, (refl, (refl, (refl, (refl, tt)))))))))
 
 -- "refused 1"

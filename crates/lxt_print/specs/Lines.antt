@@ -2,6 +2,7 @@
 use Prim.Native.Nat.{ℕ, zero, suc, _+_, _/_, _%_}
 use mathlib.Core.List.{List, [], _∷_, _++_}
 use lib.ListN.{length, take, drop}
+use lib.IntN.{ℤ, pos, negsuc}
 use lib.Dec.{leb, ltb, eqb}
 use Rattle.lxt_format.specs.Limits.{longestPrinted}
 use Rattle.lxt_format.specs.Basics.{if_then_else_, _unless_, _orElse_, range, joined}
@@ -19,13 +20,18 @@ use Rattle.lxt_format.specs.declared.Pair.{Pair}
 
 -- ---- numbers as text
 
--- a 32-bit number in decimal: at most ten digits
+-- a 64-bit number in decimal: at most twenty digits
 unfoldable pub decimalWithin : ℕ → ℕ → List ℕ
 decimalWithin zero n = []
 decimalWithin (suc k) n = (if ltb n 10 then [] else decimalWithin k (n / 10)) ++ ((48 + n % 10) ∷ [])
 
 unfoldable pub decimal : ℕ → List ℕ
-decimal n = decimalWithin 10 n
+decimal n = decimalWithin 20 n
+
+-- paper 02, Ask 1: times are signed; a negative one has "-" before its digits
+unfoldable pub signedDecimal : ℤ → List ℕ
+signedDecimal (pos n) = decimal n
+signedDecimal (negsuc n) = 0x2D ∷ decimal (suc n)
 
 -- "lower-case hexadecimal digits"
 unfoldable pub hexDigit : ℕ → ℕ
@@ -93,7 +99,7 @@ valueText s notDriven = []
 -- "change 0 6 5 0" (number, offset, time, value)
 unfoldable pub changeLine : List ℕ → Pair → List ℕ
 changeLine s p =
-    changeWord ++ space ++ decimal (p .number) ++ space ++ decimal (p .offset) ++ space ++ decimal (timeOf s (p .offset)) ++ space
+    changeWord ++ space ++ decimal (p .number) ++ space ++ decimal (p .offset) ++ space ++ signedDecimal (timeOf s (p .offset)) ++ space
     ++ valueText s (contentOf s (p .number) (p .offset))
     ++ newline
 

@@ -3,6 +3,7 @@ use Prim.Native.Nat.{ℕ, _+_, _≤_}
 use mathlib.Core.Path.{_≡_}
 use mathlib.Core.List.{List, _++_}
 use lib.ListN.{length, take, drop}
+use lib.IntN.{ℤ}
 use Rattle.lxt_format.specs.Basics.{if_then_else_}
 use Rattle.lxt_format.specs.Geometry.{isAlias, rootOf, ownFacts}
 use Rattle.lxt_format.specs.Judge.{fileRefusal}
@@ -11,7 +12,7 @@ use Rattle.lxt_tables.specs.declared.Tables.{Tables}
 use Rattle.lxt_format.specs.Names.{nameAmong, nameOf}
 use Rattle.lxt_values.specs.Names.{coming, Coming}
 use Rattle.lxt_values.specs.declared.names.NamesLeft.{NamesLeft}
-use Rattle.lxt_print.specs.Lines.{decimal, space, facilityWord, changeWord, aliasWord, kindWord}
+use Rattle.lxt_print.specs.Lines.{decimal, signedDecimal, space, facilityWord, changeWord, aliasWord, kindWord}
 
 -- a buffer that holds a text from `at` on
 abbrev pub placed : List ℕ → ℕ → List ℕ → List ℕ
@@ -47,5 +48,5 @@ facilityEnd s f =
     else kindWord (ownFacts s f .kind) ++ space ++ decimal (ownFacts s f .width)
 
 -- "change 0 6 5 ": up to the value
-unfoldable pub changeHead : ℕ → ℕ → ℕ → List ℕ
-changeHead f o time = changeWord ++ space ++ decimal f ++ space ++ decimal o ++ space ++ decimal time ++ space
+unfoldable pub changeHead : ℕ → ℕ → ℤ → List ℕ
+changeHead f o time = changeWord ++ space ++ decimal f ++ space ++ decimal o ++ space ++ signedDecimal time ++ space

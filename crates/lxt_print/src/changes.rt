@@ -39,7 +39,7 @@ pub fn last_entry(file: &[u8], t: Tables) -> Entry
             time: 0,
         };
     }
-    entries::last(file, t.times as usize, t.time_count)
+    entries::last(file, t.times as usize, t.time_count, t.wide_times)
 }
 
 // The length of a line that was put, and the entry of the time table that gave its time.
@@ -70,8 +70,15 @@ pub fn next(
             entry: entry,
         };
     }
-    let e = entries::down(file, t.times as usize, t.time_count, entry, o as usize);
-    let size = lines::change(file, t, taken.number as u32, o, e.time as u32, out);
+    let e = entries::down(
+        file,
+        t.times as usize,
+        t.time_count,
+        t.wide_times,
+        entry,
+        o as usize,
+    );
+    let size = lines::change(file, t, taken.number as u32, o, e.time, out);
     Line {
         size: size,
         entry: e,

@@ -7,9 +7,10 @@ ghost use Rattle.lxt_format.specs.Limits.{widestFacility};
 ghost use Rattle.lxt_format.specs.Columns.{onto};
 ghost use Rattle.lxt_format.specs.Names.{nameOf};
 ghost use Rattle.lxt_format.specs.Times.{timeOf};
+ghost use Rattle.lxt_format.specs.BiasedTimes.{biased, unbiased};
 ghost use Rattle.lxt_format.specs.Values.{contentOf};
 ghost use Rattle.lxt_chains.specs.Pending.{pairOf, Allowed};
-ghost use Rattle.lxt_print.specs.Lines.{decimal, space, facilityLine, changeLine, doneLine, refusedLine, kindWord, valueText};
+ghost use Rattle.lxt_print.specs.Lines.{decimal, signedDecimal, space, facilityLine, changeLine, doneLine, refusedLine, kindWord, valueText};
 ghost use Rattle.lxt_print.specs.Placing.{Opened, NamesAt, Put, facilityHead, facilityEnd, changeHead};
 use crate::text::bytes_of;
 use crate::text::put_bytes;
@@ -17,6 +18,7 @@ use crate::text::put_decimal;
 use crate::text::put_hex;
 use lxt_format::Kind;
 use lxt_format::Value;
+use lxt_sections::times::BIAS;
 use lxt_tables::Tables;
 use lxt_tables::aliases;
 use lxt_tables::geometry;
@@ -30,7 +32,7 @@ pub fn refused(k: u8, out: &mut [u8]) -> usize
     ensures { λ r. ⌜ (r ≡ length (refusedLine k)) × (now (out .exit) ≡ onto (refusedLine k) (now (out .entry))) ⌝ }
 {
     let p = put_bytes(out, 0, &[b'r', b'e', b'f', b'u', b's', b'e', b'd', b' ']);
-    let q = put_decimal(out, p, k as u32);
+    let q = put_decimal(out, p, k as u64);
     put_bytes(out, q, &[b'\n'])
 }
 
@@ -40,16 +42,16 @@ pub fn done(count: u32, out: &mut [u8]) -> usize
     ensures { λ r. ⌜ (r ≡ length (doneLine count)) × (now (out .exit) ≡ onto (doneLine count) (now (out .entry))) ⌝ }
 {
     let p = put_bytes(out, 0, &[b'd', b'o', b'n', b'e', b' ']);
-    let q = put_decimal(out, p, count);
+    let q = put_decimal(out, p, count as u64);
     put_bytes(out, q, &[b'\n'])
 }
 
 // A number and a space.
 fn put_number(out: &mut [u8], at: usize, n: u32) -> usize
-    requires { ⌜ at + 11 ≤ length (now out) ⌝ }
-    ensures { λ r. ⌜ Put (now (out .entry)) at (decimal n ++ space) r (now (out .exit)) × (r ≤ at + 11) ⌝ }
+    requires { ⌜ at + 21 ≤ length (now out) ⌝ }
+    ensures { λ r. ⌜ Put (now (out .entry)) at (decimal n ++ space) r (now (out .exit)) × (r ≤ at + 21) ⌝ }
 {
-    let p = put_decimal(out, at, n);
+    let p = put_decimal(out, at, n as u64);
     put_bytes(out, p, &[b' '])
 }
 
@@ -67,8 +69,8 @@ fn put_kind(out: &mut [u8], at: usize, kind: Kind) -> usize
 
 // A facility's number and name.
 fn put_facility(f: u32, name: &[u8], out: &mut [u8]) -> usize
-    requires { ⌜ length (now name) + 21 ≤ length (now out) ⌝ }
-    ensures { λ r. ⌜ Put (now (out .entry)) 0 (facilityHead f (now (name .entry))) r (now (out .exit)) × (r ≤ length (now (name .entry)) + 21) ⌝ }
+    requires { ⌜ length (now name) + 31 ≤ length (now out) ⌝ }
+    ensures { λ r. ⌜ Put (now (out .entry)) 0 (facilityHead f (now (name .entry))) r (now (out .exit)) × (r ≤ length (now (name .entry)) + 31) ⌝ }
 {
     let p = put_bytes(
         out,
@@ -82,20 +84,20 @@ fn put_facility(f: u32, name: &[u8], out: &mut [u8]) -> usize
 
 // A facility's kind and width; of an alias "alias" and its root's number.
 fn put_shape(file: &[u8], t: Tables, f: u32, out: &mut [u8], at: usize) -> usize
-    requires { ⌜ Opened (now file) t × ((f < t .facilities) × (at + 18 ≤ length (now out))) ⌝ }
-    ensures { λ r. ⌜ Put (now (out .entry)) at (facilityEnd (now (file .entry)) f) r (now (out .exit)) × (r ≤ at + 18) ⌝ }
+    requires { ⌜ Opened (now file) t × ((f < t .facilities) × (at + 28 ≤ length (now out))) ⌝ }
+    ensures { λ r. ⌜ Put (now (out .entry)) at (facilityEnd (now (file .entry)) f) r (now (out .exit)) × (r ≤ at + 28) ⌝ }
 {
     let geometry = t.geometry as usize;
     let n = t.facilities;
     if geometry::is_alias(file, geometry, n, f) {
         let p = put_bytes(out, at, &[b'a', b'l', b'i', b'a', b's', b' ']);
-        return put_decimal(out, p, aliases::root(file, geometry, n, f));
+        return put_decimal(out, p, aliases::root(file, geometry, n, f) as u64);
     }
     let facts = geometry::own_facts(file, geometry, n, f);
     let kind = facts.kind;
     let q = put_kind(out, at, kind);
     let r = put_bytes(out, q, &[b' ']);
-    put_decimal(out, r, facts.width)
+    put_decimal(out, r, facts.width as u64)
 }
 
 // A facility: its number, name, kind and width; of an alias "alias" and its root's number.
@@ -136,15 +138,28 @@ pub fn next_facility(
     }
 }
 
-// A change's number, offset and time.
-fn put_change(f: u32, o: u32, time: u32, out: &mut [u8]) -> usize
-    requires { ⌜ 40 ≤ length (now out) ⌝ }
-    ensures { λ r. ⌜ Put (now (out .entry)) 0 (changeHead f o time) r (now (out .exit)) × (r ≤ 40) ⌝ }
+// A time, which has its bias, with "-" where it is negative.
+fn put_time(out: &mut [u8], at: usize, time: u64) -> usize
+    requires { ⌜ at + 21 ≤ length (now out) ⌝ }
+    ensures { λ r. ⌜ Put (now (out .entry)) at (signedDecimal (unbiased time)) r (now (out .exit)) × (r ≤ at + 21) ⌝ }
+{
+    if time < BIAS {
+        let p = put_bytes(out, at, &[b'-']);
+        return put_decimal(out, p, BIAS - time);
+    }
+    put_decimal(out, at, time - BIAS)
+}
+
+// A change's number, offset and time, which has its bias.
+fn put_change(f: u32, o: u32, time: u64, out: &mut [u8]) -> usize
+    requires { ⌜ 80 ≤ length (now out) ⌝ }
+    ensures { λ r. ⌜ Put (now (out .entry)) 0 (changeHead f o (unbiased time)) r (now (out .exit)) × (r ≤ 80) ⌝ }
 {
     let p = put_bytes(out, 0, &[b'c', b'h', b'a', b'n', b'g', b'e', b' ']);
     let q = put_number(out, p, f);
     let r = put_number(out, q, o);
-    put_number(out, r, time)
+    let s = put_time(out, r, time);
+    put_bytes(out, s, &[b' '])
 }
 
 // The value of a change: symbols as they are, reals and texts in hexadecimal.
@@ -179,9 +194,9 @@ fn put_value(file: &[u8], t: Tables, f: u32, o: u32, out: &mut [u8], at: usize) 
     }
 }
 
-// A change: its number, offset, time and value.
-pub fn change(file: &[u8], t: Tables, f: u32, o: u32, time: u32, out: &mut [u8]) -> usize
-    requires { ⌜ Opened (now file) t × ((f < t .facilities) × (Allowed (now file) (pairOf f o) × ((time ≡ timeOf (now file) o) × (2 * length (now file) + 4200 ≤ length (now out))))) ⌝ }
+// A change: its number, offset, time, which has its bias, and value.
+pub fn change(file: &[u8], t: Tables, f: u32, o: u32, time: u64, out: &mut [u8]) -> usize
+    requires { ⌜ Opened (now file) t × ((f < t .facilities) × (Allowed (now file) (pairOf f o) × ((time ≡ biased (timeOf (now file) o)) × (2 * length (now file) + 4200 ≤ length (now out))))) ⌝ }
     ensures { λ r. ⌜ (r ≡ length (changeLine (now (file .entry)) (pairOf f o))) × (now (out .exit) ≡ onto (changeLine (now (file .entry)) (pairOf f o)) (now (out .entry))) ⌝ }
 {
     let p = put_change(f, o, time, out);

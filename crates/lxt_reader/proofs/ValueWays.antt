@@ -3,6 +3,11 @@ use Prim.Native.Nat.{ℕ, _+_, _≤_, _<_}
 use mathlib.Core.Path.{_≡_, refl, sym, _∙_}
 use mathlib.Core.Bool.{Bool, _&&_}
 use mathlib.Core.List.{List, [], _++_}
+use lib.IntN.{ℤ}
+use lib.Signed.{mag}
+use mir.Syntax.{w64}
+use mir.Val.{toZ, ofZ}
+use mir.ValLaws.{toZ-ofZ}
 use lib.ListN.{length, drop, replicate, length-replicate}
 use lib.Dec.{ltb, leb, eqb, lit<}
 use native.Mathlib.Omega.{arith}
@@ -13,6 +18,7 @@ use Rattle.lxt_format.specs.Bytes.{byteAt}
 use Rattle.lxt_format.specs.Sections.{sectionOf, present, facilityCount, initialOf}
 use Rattle.lxt_format.specs.Geometry.{rootOf, factsOf}
 use Rattle.lxt_format.specs.Times.{timeOf}
+use Rattle.lxt_format.specs.BiasedTimes.{bias}
 use Rattle.lxt_format.specs.Reals as R
 use Rattle.lxt_format.specs.Changes.{signal, chainOf, cleanAt}
 use Rattle.lxt_format.specs.ChangesLaws.{Sound}
@@ -87,10 +93,10 @@ module _ (s : List ℕ) (f : ℕ) (c : Chain) (e : c .tables ≡ tablesOf s) (fi
   pub tables-are : Known s (c .tables)
   tables-are = tables-known s (c .tables) e (l .accepted)
 
-  pub times-there : Ti.Times s (c .tables .times) (c .tables .«time_count»)
+  pub times-there : Ti.Times s (c .tables .times) (c .tables .«time_count») (c .tables .«wide_times»)
   times-there =
       let k = tables-are in
-      record { start = k .times; count = k .time-count; inside = omega (arith, k .times-at .inside); allowed = k .passed .times }
+      record { start = k .times; count = k .time-count; form = k .wide; inside = k .times-at .inside; end = omega (arith, k .end-high); allowed = k .passed .times }
 
   pub chain-there : Readable s (chainOf s (c .start))
   unfolding faultFrom
@@ -166,20 +172,20 @@ module _ (s : List ℕ) (f o : ℕ) (buffer : List ℕ) (c : Chain) (w : Looked 
         let a = says 21 (rw (change-fine, lt-leb _ _ g)) (eqb-false 21 0 refl) in
         (q ∙ a .0, a .1)
 
-    pub change-given : c .facts .width ≤ length buffer → (time : ℕ) → time ≡ timeOf s o → (v : Answer Shown) (after : List ℕ)
+    pub change-given : c .facts .width ≤ length buffer → (time : ℤ) → mag time < bias → time ≡ timeOf s o → (v : Answer Shown) (after : List ℕ)
         → v ≡ given (shown (contentBy s (c .facts .kind) (c .facts .width) o)) → after ≡ holdingBits (contentBy s (c .facts .kind) (c .facts .width) o) buffer
         → (z : Bool) → z ≡ cleanAt s (signal 0 0 (c .facts .kind) (c .facts .width)) o
-        → (_≡_ {A = Timed} (record { time = time; value = v; clean = z }) (changeAsked s f o (length buffer))) × (after ≡ changeBuffer s f o buffer)
+        → (_≡_ {A = Timed} (record { time = toZ w64 (ofZ w64 time); value = v; clean = z }) (changeAsked s f o (length buffer))) × (after ≡ changeBuffer s f o buffer)
     unfolding readingRefusal changeAsked changeBuffer
-    change-given room time et v after ev ea z ez =
+    change-given room time ft et v after ev ea z ez =
         let g : factsOf s f .width ≤ length buffer = rw (w .followed h .facts) at room in
         let i = content-is s f c (w .tables) facility-fine (w .followed h) o in
         let j = ez ∙ clean-is s f c (w .tables) facility-fine (w .followed h) o in
-        (rw (change-fine, le-leb _ _ g, et, ev, i, j), ea ∙ rw (change-fine, le-leb _ _ g, i))
+        (rw (toZ-ofZ w64 time (record { sfits = ft }), change-fine, le-leb _ _ g, et, ev, i, j), ea ∙ rw (change-fine, le-leb _ _ g, i))
 
 -- ---- the value at a time
 
-module _ (s : List ℕ) (f t : ℕ) (buffer : List ℕ) (c : Chain) (w : Chained s f c) where
+module _ (s : List ℕ) (f : ℕ) (t : ℤ) (buffer : List ℕ) (c : Chain) (w : Chained s f c) where
   tells : (refusal : ℕ) → valueRefusal s f (length buffer) ≡ refusal → (refusal ≡ 0 → ⊥)
       → (refused refusal ≡ valueAsked s f t (length buffer)) × (buffer ≡ valueBuffer s f t buffer)
   unfolding valueAsked valueBuffer
@@ -199,7 +205,7 @@ module _ (s : List ℕ) (f t : ℕ) (buffer : List ℕ) (c : Chain) (w : Chained
         let g : length buffer < factsOf s f .width = rw (w .followed h .facts) at short in
         tells 21 (rw (asked-fine, lt-leb _ _ g)) (eqb-false 21 0 refl)
 
-    pub latest-asks : Ti.Times s (c .tables .times) (c .tables .«time_count») × Readable s (chainOf s (c .start))
+    pub latest-asks : Ti.Times s (c .tables .times) (c .tables .«time_count») (c .tables .«wide_times») × Readable s (chainOf s (c .start))
     latest-asks = (times-there s f c (w .tables) asked-fine (w .followed h), chain-there s f c (w .tables) asked-fine (w .followed h))
 
     module _ (room : c .facts .width ≤ length buffer) where

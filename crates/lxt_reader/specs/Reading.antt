@@ -2,6 +2,7 @@
 use Prim.Native.Nat.{ℕ}
 use mathlib.Core.Bool.{false}
 use lib.ListN.{replicate}
+use lib.IntN.{pos}
 use Rattle.lxt_format.specs.Basics.{refused}
 use Rattle.lxt_format.specs.Answers.{Timed}
 use Rattle.lxt_format.specs.Values.{Content, bits, notDriven, symbolOf}
@@ -17,4 +18,4 @@ startContent Text width code = notDriven
 
 -- the answer of a change that is refused
 abbrev pub notRead : ℕ → Timed
-notRead n = record { time = 0; value = refused n; clean = false }
+notRead n = record { time = pos 0; value = refused n; clean = false }

@@ -60,14 +60,14 @@ pub fn of_change(file: &[u8], facility: u32, offset: u32, bits: &mut [u8]) -> Ti
     let t = c.tables;
     let order = t.order;
     let o = offset as usize;
-    let time = times::time_of(file, t.times as usize, t.time_count, o);
+    let time = times::time_of(file, t.times as usize, t.time_count, t.wide_times, o);
     let clean = is_clean(file, kind, facts.width, o);
     let value = read(file, t.end, order, kind, facts.width, o, bits);
     TimedValue { time, value, clean }
 }
 
 // The value at a time, by the latest change; its symbols fill the first bytes of the lent buffer.
-pub fn at_time(file: &[u8], facility: u32, time: u32, bits: &mut [u8]) -> Value
+pub fn at_time(file: &[u8], facility: u32, time: i64, bits: &mut [u8]) -> Value
     ensures { λ r. ⌜ (valueSays r ≡ valueAsked (now (file .entry)) facility time (length (now (bits .entry)))) × (now (bits .exit) ≡ valueBuffer (now (file .entry)) facility time (now (bits .entry))) ⌝ }
 {
     let chain = changes::find_chain(file, facility);
@@ -84,6 +84,7 @@ pub fn at_time(file: &[u8], facility: u32, time: u32, bits: &mut [u8]) -> Value
         file,
         t.times as usize,
         t.time_count,
+        t.wide_times,
         chain.start as usize,
         time,
     );

@@ -4,10 +4,10 @@ ghost use mathlib.Core.Bool.{true, false, not, _&&_, _||_};
 ghost use Prim.Native.Nat.{_+_, _*_, _≤_, _<_};
 ghost use lib.Dec.{eqb};
 ghost use lib.ListN.{length, getD, set, replicate};
-ghost use Rattle.lxt_format.specs.Bytes.{u16At, u32At};
+ghost use Rattle.lxt_format.specs.Bytes.{numberAt, u16At, u32At};
 ghost use Rattle.lxt_format.specs.Basics.{range, any};
 ghost use Rattle.lxt_format.specs.Sections.{startsRight, endsRight, inside};
-ghost use Rattle.lxt_sections.specs.Stage.{frameRefusal, listedOf, placesOf, Ready, allInside, countedRefusal, refusedWith, found, sectionsOf};
+ghost use Rattle.lxt_sections.specs.Stage.{frameRefusal, listedOf, placesOf, tableIn, Ready, allInside, countedRefusal, refusedWith, found, sectionsOf};
 use lxt_format::File;
 use lxt_format::SectionCursor;
 use lxt_format::Summary;
@@ -47,6 +47,14 @@ pub fn be32(file: &[u8], at: usize) -> u32
     ensures { λ r. ⌜ r ≡ u32At (now (file .entry)) at ⌝ }
 {
     join32(file[at], file[at + 1], file[at + 2], file[at + 3])
+}
+
+// The number in the eight bytes from `at` on.
+pub fn be64(file: &[u8], at: usize) -> u64
+    requires { ⌜ at + 8 ≤ length (now file) ⌝ }
+    ensures { λ r. ⌜ r ≡ numberAt 8 (now (file .entry)) at ⌝ }
+{
+    be32(file, at) as u64 * 4294967296 + be32(file, at + 4) as u64
 }
 
 fn starts_right(file: &[u8]) -> bool
@@ -141,11 +149,10 @@ fn list(file: &[u8]) -> Listing
 }
 
 // What the section list says, by name: C, where each section starts (0 where it is absent), whether a
-// compressed section or the 64-bit times are there, and T.
+// compressed section is there, and T.
 pub struct Places {
     pub listed: bool,
     pub compressed: bool,
-    pub wide_times: bool,
     pub end: usize,
     pub changes: u32,
     pub sync: u32,
@@ -155,6 +162,7 @@ pub struct Places {
     pub times: u32,
     pub initial: u32,
     pub real_test: u32,
+    pub wide_times: u32,
 }
 
 // One of the tags 0A to 12 counts.
@@ -178,7 +186,6 @@ fn placed(file: &[u8]) -> Places
     Places {
         listed: l.listed,
         compressed: any_compressed(t),
-        wide_times: t[9] != 0,
         end: l.end,
         changes: t[1],
         sync: t[2],
@@ -188,15 +195,26 @@ fn placed(file: &[u8]) -> Places
         times: t[6],
         initial: t[7],
         real_test: t[8],
+        wide_times: t[9],
     }
 }
 
-// The five sections that every trace has are there.
+// The four sections that every trace has are there, and times.
 fn all_present(p: Places) -> bool
-    ensures { λ r. ⌜ r ≡ (not (eqb (p .changes) 0) && (not (eqb (p .sync) 0) && (not (eqb (p .names) 0) && (not (eqb (p .geometry) 0) && (not (eqb (p .times) 0) && true))))) ⌝ }
+    ensures { λ r. ⌜ r ≡ ((not (eqb (p .changes) 0) && (not (eqb (p .sync) 0) && (not (eqb (p .names) 0) && (not (eqb (p .geometry) 0) && true)))) && (not (eqb (p .times) 0) || not (eqb (p .«wide_times») 0))) ⌝ }
 {
-    (p.changes != 0)
-        & ((p.sync != 0) & ((p.names != 0) & ((p.geometry != 0) & ((p.times != 0) & true))))
+    ((p.changes != 0) & ((p.sync != 0) & ((p.names != 0) & ((p.geometry != 0) & true))))
+        & ((p.times != 0) | (p.wide_times != 0))
+}
+
+// Where the table of times starts: that of tag 09 where it is there, else that of tag 06.
+fn table_of(p: Places) -> u32
+    ensures { λ r. ⌜ r ≡ tableIn p ⌝ }
+{
+    if p.wide_times != 0 {
+        return p.wide_times;
+    }
+    p.times
 }
 
 // `size` bytes from `start` on lie between offset 4 and `end`.
@@ -215,23 +233,24 @@ fn body(end: usize, start: u32, size: usize) -> bool
     !(start != 0) | lies(end, start, size)
 }
 
-// All bodies lie inside, with `n` facilities and `m` time entries, and C is from 4 to T.
-fn all_inside(p: Places, n: u32, m: u32) -> bool
-    ensures { λ r. ⌜ r ≡ allInside p n m ⌝ }
+// All bodies lie inside, with `n` facilities and times of `size` bytes, and C is from 4 to T.
+fn all_inside(p: Places, n: u32, size: usize) -> bool
+    requires { ⌜ size < 1099511627776 ⌝ }
+    ensures { λ r. ⌜ r ≡ allInside p n size ⌝ }
 {
     (body(p.end, p.sync, 4 * (n as usize))
         & (body(p.end, p.names, 8)
             & (body(p.end, p.geometry, 16 * (n as usize))
                 & (body(p.end, p.timescale, 1)
-                    & (body(p.end, p.times, 12 + 8 * (m as usize))
-                        & (body(p.end, p.initial, 1) & true))))))
-        & lies(p.end, p.changes, 0)
+                    & (body(p.end, p.times, size) & (body(p.end, p.initial, 1) & true))))))
+        & (body(p.end, p.wide_times, size) & lies(p.end, p.changes, 0))
 }
 
-// The sections of a file that refusals 1 to 9 pass: n, m, C, T and where each section starts (0 where
-// it is absent); or the refusal's number, and all else 0.
+// The sections of a file that refusals 1 to 9 pass: n, m, C, T, where each section starts (0 where it is
+// absent) and whether its times have 8 bytes; or the refusal's number, and all else 0.
 pub struct Sections {
     pub refusal: u8,
+    pub wide_times: bool,
     pub facilities: u32,
     pub time_count: u32,
     pub end: usize,
@@ -250,6 +269,7 @@ fn refused(n: u8) -> Sections
 {
     Sections {
         refusal: n,
+        wide_times: false,
         facilities: 0,
         time_count: 0,
         end: 0,
@@ -272,12 +292,14 @@ fn counted(file: &[u8], p: Places) -> Sections
     if !lies(p.end, p.names, 8) {
         return refused(8);
     }
-    if !lies(p.end, p.times, 12) {
+    let wide = p.wide_times != 0;
+    let table = table_of(p);
+    if !lies(p.end, table, times::size(wide, 0)) {
         return refused(8);
     }
     let n = be32(file, p.names as usize);
-    let m = be32(file, p.times as usize);
-    if !all_inside(p, n, m) {
+    let m = be32(file, table as usize);
+    if !all_inside(p, n, times::size(wide, m)) {
         return refused(8);
     }
     if !Summary::count_is_allowed(n) {
@@ -285,6 +307,7 @@ fn counted(file: &[u8], p: Places) -> Sections
     }
     Sections {
         refusal: 0,
+        wide_times: wide,
         facilities: n,
         time_count: m,
         end: p.end,
@@ -293,7 +316,7 @@ fn counted(file: &[u8], p: Places) -> Sections
         names: p.names,
         geometry: p.geometry,
         timescale: p.timescale,
-        times: p.times,
+        times: table,
         initial: p.initial,
         real_test: p.real_test,
     }
@@ -314,7 +337,7 @@ pub fn locate(file: &[u8]) -> Sections
     if p.compressed {
         return refused(5);
     }
-    if p.wide_times {
+    if (p.times != 0) & (p.wide_times != 0) {
         return refused(6);
     }
     if !all_present(p) {

@@ -1,40 +1,92 @@
-// The layout of a time table: m, the first and the last time, m position deltas, then m time deltas, 4
-// bytes each.
+// The layout of a time table: m in 4 bytes, the first and the last time, m position deltas of 4 bytes, then
+// m time deltas. A time has 8 bytes in a wide table, that of tag 09, and 4 in that of tag 06.
 ghost use mathlib.Core.Path.{_≡_};
 ghost use Prim.Native.Nat.{_+_, _*_, _≤_, _<_};
 ghost use lib.ListN.{length};
-ghost use Rattle.lxt_format.specs.Bytes.{u32At};
+ghost use Rattle.lxt_format.specs.Bytes.{numberAt, u32At};
+ghost use Rattle.lxt_format.specs.Sections.{timeBytes, timesSize};
+ghost use Rattle.lxt_format.specs.BiasedTimes.{biasedBytes};
 use crate::be32;
+use crate::be64;
 
-// Where the position deltas of the table at `times` start.
-pub fn positions_at(times: usize) -> usize
-    requires { ⌜ times < 9223372036854775808 ⌝ }
-    ensures { λ r. ⌜ r ≡ times + 12 ⌝ }
+// The bytes of a table of `m` entries.
+pub fn size(wide: bool, m: u32) -> usize
+    ensures { λ r. ⌜ (r ≡ timesSize wide m) × (r < 1099511627776) ⌝ }
 {
+    if wide {
+        return 20 + 12 * (m as usize);
+    }
+    12 + 8 * (m as usize)
+}
+
+// Where the last time of the table at `times` stands.
+pub fn last_at(times: usize, wide: bool) -> usize
+    requires { ⌜ times < 9223372036854775808 ⌝ }
+    ensures { λ r. ⌜ r ≡ times + 4 + timeBytes wide ⌝ }
+{
+    if wide {
+        return times + 12;
+    }
+    times + 8
+}
+
+// Where its position deltas start.
+pub fn positions_at(times: usize, wide: bool) -> usize
+    requires { ⌜ times < 9223372036854775808 ⌝ }
+    ensures { λ r. ⌜ (r ≡ times + 4 + 2 * timeBytes wide) × (r ≤ times + 20) ⌝ }
+{
+    if wide {
+        return times + 20;
+    }
     times + 12
 }
 
 // Where its time deltas start.
-pub fn steps_at(times: usize, m: u32) -> usize
+pub fn steps_at(times: usize, m: u32, wide: bool) -> usize
     requires { ⌜ times < 9223372036854775808 ⌝ }
-    ensures { λ r. ⌜ r ≡ times + 12 + 4 * m ⌝ }
+    ensures { λ r. ⌜ r ≡ times + 4 + 2 * timeBytes wide + 4 * m ⌝ }
 {
-    positions_at(times) + 4 * (m as usize)
+    positions_at(times, wide) + 4 * (m as usize)
 }
 
-// The deltas of one entry.
+// The bytes of time `i` of those from `at` on, as a number; 4 bytes are widened with zeros.
+pub fn time_at(file: &[u8], at: usize, wide: bool, i: usize) -> u64
+    requires { ⌜ (i < 4294967296) × (at + timeBytes wide * i + timeBytes wide ≤ length (now file)) ⌝ }
+    ensures { λ r. ⌜ r ≡ numberAt (timeBytes wide) (now (file .entry)) (at + timeBytes wide * i) ⌝ }
+{
+    if wide {
+        return be64(file, at + 8 * i);
+    }
+    be32(file, at + 4 * i) as u64
+}
+
+// 2^63: what is added to a time, so that times in their order are numbers from 0 on.
+pub const BIAS: u64 = 0x8000_0000_0000_0000;
+
+// The time of these bytes, with the bias.
+pub fn biased(bytes: u64) -> u64
+    ensures { λ r. ⌜ r ≡ biasedBytes bytes ⌝ }
+{
+    if bytes < BIAS {
+        return BIAS + bytes;
+    }
+    bytes - BIAS
+}
+
+// The deltas of one entry: the bytes of the time's.
 pub struct Deltas {
     pub position: u32,
-    pub time: u32,
+    pub time: u64,
 }
 
 // Those of entry `i`, of `m`.
-pub fn deltas_of(file: &[u8], times: usize, m: u32, i: usize) -> Deltas
-    requires { ⌜ (times + 12 + 8 * m ≤ length (now file)) × (i < m) ⌝ }
-    ensures { λ r. ⌜ (r .position ≡ u32At (now (file .entry)) (times + 12 + 4 * i)) × (r .time ≡ u32At (now (file .entry)) (times + 12 + 4 * m + 4 * i)) ⌝ }
+pub fn deltas_of(file: &[u8], times: usize, m: u32, wide: bool, i: usize) -> Deltas
+    requires { ⌜ (times + timesSize wide m ≤ length (now file)) × (i < m) ⌝ }
+    ensures { λ r. ⌜ r .position ≡ u32At (now (file .entry)) (times + 4 + 2 * timeBytes wide + 4 * i) ⌝ }
+    ensures { λ r. ⌜ r .time ≡ numberAt (timeBytes wide) (now (file .entry)) (times + 4 + 2 * timeBytes wide + 4 * m + timeBytes wide * i) ⌝ }
 {
     Deltas {
-        position: be32(file, positions_at(times) + 4 * i),
-        time: be32(file, steps_at(times, m) + 4 * i),
+        position: be32(file, positions_at(times, wide) + 4 * i),
+        time: time_at(file, steps_at(times, m, wide), wide, i),
     }
 }

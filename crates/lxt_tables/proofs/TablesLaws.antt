@@ -11,7 +11,7 @@ use borrow.Author.Tests.{ne-eqb, not-true}
 use Rattle.lxt_format.specs.Limits.{longestFile, mostFacilities, widestFacility}
 use Rattle.lxt_format.specs.Basics.{if_then_else_, range, any, select}
 use Rattle.lxt_format.specs.BasicsLaws.{on-test, all-range}
-use Rattle.lxt_format.specs.Sections.{sectionOf, endOf, changesFrom, facilityCount, timeCount, timescaleOf, initialOf}
+use Rattle.lxt_format.specs.Sections.{sectionOf, endOf, changesFrom, facilityCount, wideTimes, timesAt, timeCount, timescaleOf, initialOf}
 use Rattle.lxt_format.specs.Geometry.{isAlias, geometryAllowed, geometriesAllowed, rootOf, flagsOf, kindOfFlags, factsBy, msbOf, lsbOf, ownFacts, rootsOf, syncOf}
 use Rattle.lxt_format.specs.GeometryLaws.{root-below, root-no-alias}
 use Rattle.lxt_format.specs.Times.{timesAllowed}
@@ -36,7 +36,8 @@ pub record Known (s : List ℕ) (t : Tables) : Type 0 where
   pub sync : t .sync ≡ sectionOf s 0x02
   pub names : t .names ≡ sectionOf s 0x03
   pub geometry : t .geometry ≡ sectionOf s 0x04
-  pub times : t .times ≡ sectionOf s 0x06
+  pub wide : t .«wide_times» ≡ wideTimes s
+  pub times : t .times ≡ timesAt s
   pub timescale : t .timescale ≡ timescaleOf s
   pub initial : t .initial ≡ initialOf s
   pub order : t .order ≡ (if hasReal s then byteOrder s else replicate 8 0)
@@ -49,7 +50,7 @@ pub record Known (s : List ℕ) (t : Tables) : Type 0 where
   pub names-high : t .names + 8 ≤ t .end
   pub geometry-at : Geometry s (t .geometry) (t .facilities)
   pub sync-at : Sync s (t .sync) (t .facilities)
-  pub times-at : Times s (t .times) (t .«time_count») (t .end)
+  pub times-at : Times s (t .times) (t .«time_count») (t .«wide_times») (t .end)
 
 module _ (s : List ℕ) (t : Tables) (e : t ≡ tablesOf s) where
   -- the number, 0 where nothing is refused
@@ -74,6 +75,7 @@ module _ (s : List ℕ) (t : Tables) (e : t ≡ tablesOf s) where
         sync = refl;
         names = refl;
         geometry = refl;
+        wide = refl;
         times = refl;
         timescale = refl;
         initial = refl;
@@ -87,7 +89,7 @@ module _ (s : List ℕ) (t : Tables) (e : t ≡ tablesOf s) where
         names-high = l .names-high;
         geometry-at = record { start = refl; count = refl; inside = omega (arith, l) };
         sync-at = record { start = refl; count = refl; inside = omega (arith, l) };
-        times-at = record { start = refl; count = refl; limit = refl; low = l .end-low; high = omega (arith, l); inside = omega (arith, l) };
+        times-at = record { start = refl; count = refl; form = refl; limit = refl; low = l .end-low; high = omega (arith, l); inside = omega (arith, l) };
       }
 
 -- ---- facilities

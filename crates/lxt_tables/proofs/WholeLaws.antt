@@ -16,7 +16,7 @@ use borrow.Author.Tests.{ne-eqb, leb-true}
 use Rattle.lxt_format.specs.Basics.{_unless_, _orElse_, range, all, any}
 use Rattle.lxt_format.specs.BasicsLaws.{on-test, and-both, neither, kept}
 use Rattle.lxt_format.specs.Bytes.{u32At}
-use Rattle.lxt_format.specs.Sections.{lengthAllowed, startsRight, endsRight, listingOf, nothingCompressed, present, sectionsPresent, bodySize, bodiesInside, inside, countAllowed, sectionOf, endOf, facilityCount, timeCount, timescaleOf, initialOf}
+use Rattle.lxt_format.specs.Sections.{lengthAllowed, startsRight, endsRight, listingOf, nothingCompressed, timesOnce, present, sectionsPresent, bodySize, bodiesInside, inside, countAllowed, sectionOf, endOf, facilityCount, timeCount, timescaleOf, initialOf}
 use Rattle.lxt_format.specs.SectionsLaws.{Located, located, body-inside}
 use Rattle.lxt_format.specs.Names.{namesIn, withinMemory, nameTable, namesAllowed}
 use Rattle.lxt_format.specs.Geometry.{rootsOf, syncOf, geometriesAllowed, aliasesAllowed}
@@ -43,7 +43,7 @@ bounds s h =
     let frame = neither (frameRefusal s) _ h in
     let c4 = neither (4 unless (listingOf s .listed)) _ (frame .1) in
     let c5 = neither (5 unless nothingCompressed s) _ (c4 .1) in
-    let c6 = neither (6 unless not (present s 0x09)) _ (c5 .1) in
+    let c6 = neither (6 unless timesOnce s) _ (c5 .1) in
     let c7 = neither (7 unless sectionsPresent s) _ (c6 .1) in
     let c8 = neither (8 unless bodiesInside s) _ (c7 .1) in
     let size = kept 1 (lengthAllowed s) (lit< tt) (neither (1 unless lengthAllowed s) (2 unless startsRight s orElse 3 unless endsRight s) (frame .0) .0) in
@@ -83,7 +83,7 @@ module _ (s : List ℕ) (p : Sections) (e : p ≡ sectionsOf s) where
         places = refl;
         geometry = record { start = refl; count = refl; inside = omega (arith, l) };
         sync = record { start = refl; count = refl; inside = omega (arith, l) };
-        times = record { start = refl; count = refl; limit = refl; low = l .end-low; high = omega (arith, l); inside = omega (arith, l) };
+        times = record { start = refl; count = refl; form = refl; limit = refl; low = l .end-low; high = omega (arith, l); inside = omega (arith, l) };
         names = l .names-high;
         timescale = one-byte s 0x05 (sectionOf s 0x05) b (lit≤ tt) (lit< tt) refl refl;
         initial = one-byte s 0x07 (sectionOf s 0x07) b (lit≤ tt) (lit< tt) refl refl;
@@ -137,6 +137,7 @@ module _ (s : List ℕ) (p : Sections) (w : Placed s p) where
   -- the timescale is read back from its bits
   pub passed-is : (t : ℤ) → SFits w8 t → t ≡ timescaleOf s → (i : ℕ) → i ≡ initialOf s → (order : List ℕ) → record {
     refusal = 0;
+    «wide_times» = p .«wide_times»;
     facilities = p .facilities;
     «time_count» = p .«time_count»;
     end = p .end;
@@ -230,7 +231,7 @@ pub in-parts : (s : List ℕ) → tablesRefusal s ≡ (sectionsRefusal s orElse 
 unfolding tablesRefusal tablesRefusalBy sectionsRefusal frameRefusal countedRefusal middleRefusal
 in-parts s =
     sym (regroup (1 unless lengthAllowed s) (2 unless startsRight s) (3 unless endsRight s) (4 unless (listingOf s .listed)) (5 unless nothingCompressed s)
-    (6 unless not (present s 0x09)) (7 unless sectionsPresent s) (8 unless bodiesInside s) (9 unless countAllowed (facilityCount s))
+    (6 unless timesOnce s) (7 unless sectionsPresent s) (8 unless bodiesInside s) (9 unless countAllowed (facilityCount s))
     (10 unless namesAllowed s) (11 unless geometriesAllowed s) (12 unless aliasesAllowed s) (13 unless timesAllowed s) (14 unless realTestAllowed s))
 
 tables-refused : (s : List ℕ) (k : ℕ) → (k ≡ 0 → ⊥) → tablesRefusal s ≡ k → refusedTables k ≡ tablesOf s

@@ -1,12 +1,13 @@
 -- What the functions of this crate answer and ask, by the definitions of the format.
 use Prim.Native.Nat.{ℕ, _+_, _*_, _≤_}
 use mathlib.Core.Path.{_≡_}
+use mathlib.Core.Bool.{false}
 use mathlib.Core.List.{List, []}
 use lib.ListN.{length, replicate}
 use lib.IntN.{pos}
 use lib.Dec.{eqb}
 use Rattle.lxt_format.specs.Basics.{if_then_else_}
-use Rattle.lxt_format.specs.Sections.{sectionOf, endOf, changesFrom, facilityCount, timeCount, timescaleOf, initialOf}
+use Rattle.lxt_format.specs.Sections.{sectionOf, endOf, changesFrom, facilityCount, wideTimes, timesAt, timeCount, timescaleOf, initialOf}
 use Rattle.lxt_format.specs.Reals.{hasReal, byteOrder}
 use Rattle.lxt_format.specs.Judge.{tablesRefusal}
 use Rattle.lxt_tables.specs.declared.Tables.{Tables}
@@ -22,6 +23,7 @@ abbrev pub refusedTables : ℕ → Tables
 refusedTables k =
     record {
       refusal = k;
+      «wide_times» = false;
       facilities = 0;
       «time_count» = 0;
       end = 0;
@@ -40,6 +42,7 @@ unfoldable pub tablesOf : List ℕ → Tables
 tablesOf s =
     if eqb (tablesRefusal s) 0 then record {
       refusal = 0;
+      «wide_times» = wideTimes s;
       facilities = facilityCount s;
       «time_count» = timeCount s;
       end = endOf s;
@@ -47,7 +50,7 @@ tablesOf s =
       sync = sectionOf s 0x02;
       names = sectionOf s 0x03;
       geometry = sectionOf s 0x04;
-      times = sectionOf s 0x06;
+      times = timesAt s;
       timescale = timescaleOf s;
       initial = initialOf s;
       order = if hasReal s then byteOrder s else replicate 8 0;

@@ -3,7 +3,7 @@ use Prim.Native.Nat.{ℕ}
 use mathlib.Core.List.{List}
 use lib.ListN.{replicate}
 use Rattle.lxt_format.specs.Basics.{if_then_else_, _unless_, _orElse_}
-use Rattle.lxt_format.specs.Sections.{sectionOf, endOf, changesFrom, facilityCount, timeCount, timescaleOf, initialOf}
+use Rattle.lxt_format.specs.Sections.{sectionOf, endOf, changesFrom, facilityCount, wideTimes, timesAt, timeCount, timescaleOf, initialOf}
 use Rattle.lxt_format.specs.Names.{namesAllowed}
 use Rattle.lxt_format.specs.Geometry.{geometriesAllowed, aliasesAllowed}
 use Rattle.lxt_format.specs.Times.{timesAllowed}
@@ -24,6 +24,7 @@ unfoldable pub passedTables : List ℕ → List ℕ → Tables
 passedTables s order =
     record {
       refusal = 0;
+      «wide_times» = wideTimes s;
       facilities = facilityCount s;
       «time_count» = timeCount s;
       end = endOf s;
@@ -31,7 +32,7 @@ passedTables s order =
       sync = sectionOf s 0x02;
       names = sectionOf s 0x03;
       geometry = sectionOf s 0x04;
-      times = sectionOf s 0x06;
+      times = timesAt s;
       timescale = timescaleOf s;
       initial = initialOf s;
       order = order;

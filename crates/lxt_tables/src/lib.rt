@@ -7,11 +7,12 @@ pub mod single; // single.rt: the timescale and the initial symbol
 pub mod times; // times.rt: refusal 13
 pub mod whole; // whole.rt: refusals 1 to 14
 
-// What refusals 1 to 14 pass: n, m, C, T, where each table starts, the timescale, the initial symbol
-// and the byte order of reals (all 0 where there is no real facility); or the refusal's number, and
-// all else 0.
+// What refusals 1 to 14 pass: whether times have 8 bytes, n, m, C, T, where each table starts, the
+// timescale, the initial symbol and the byte order of reals (all 0 where there is no real facility); or
+// the refusal's number, and all else 0.
 pub struct Tables {
     pub refusal: u8,
+    pub wide_times: bool,
     pub facilities: u32,
     pub time_count: u32,
     pub end: usize,

@@ -20,6 +20,7 @@ fn refused(k: u8) -> Tables
 {
     Tables {
         refusal: k,
+        wide_times: false,
         facilities: 0,
         time_count: 0,
         end: 0,
@@ -61,6 +62,7 @@ fn passed(file: &[u8], p: Sections, order: [u8; 8]) -> Tables
 {
     Tables {
         refusal: 0,
+        wide_times: p.wide_times,
         facilities: p.facilities,
         time_count: p.time_count,
         end: p.end,

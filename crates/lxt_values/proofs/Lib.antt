@@ -7,3 +7,4 @@ pub mod CopyLaws
 pub mod NameLaws
 pub mod EntryLaws
 pub mod ReadLaws
+pub mod BiasLaws

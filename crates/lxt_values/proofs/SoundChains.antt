@@ -4,6 +4,8 @@ use mathlib.Core.Path.{_≡_, refl, _∙_}
 use mathlib.Core.Bool.{true, false≢true}
 use mathlib.Core.List.{List, [], _∷_, map}
 use lib.ListN.{length}
+use lib.IntN.{ℤ}
+use lib.Signed.{leZ}
 use lib.Dec.{leb, eqb}
 use native.Mathlib.Omega.{arith}
 use native.Mathlib.Decide.{decLe}
@@ -38,13 +40,13 @@ module _ (s : List ℕ) (g : Signal) where
       or-either (eqb o x) (any (eqb o) os) e (λ q. rw (eqb-true o x q) (both .0)) rest
 
   -- and so has the latest of them
-  latest-sound : (t : ℕ) (os : List ℕ) → firstFault (map (faultAt s g) os) ≡ 0 → (latestAt s t os ≡ 0 → ⊥) → faultAt s g (latestAt s t os) ≡ 0
+  latest-sound : (t : ℤ) (os : List ℕ) → firstFault (map (faultAt s g) os) ≡ 0 → (latestAt s t os ≡ 0 → ⊥) → faultAt s g (latestAt s t os) ≡ 0
   unfolding firstFault latestAt
   latest-sound t [] h n = absurd (n refl)
   latest-sound t (o ∷ os) h n =
       let both = neither (faultAt s g o) (firstFault (map (faultAt s g) os)) h in
       let rest : (latestAt s t os ≡ 0 → ⊥) → faultAt s g (latestAt s t os) ≡ 0 = λ k. latest-sound t os (both .1) k in
-      on-test (leb (timeOf s o) t)
+      on-test (leZ (timeOf s o) t)
       (λ q. elim (decLe o (latestAt s t os)) [
         | yes l ↦ (let e : max o (latestAt s t os) ≡ latestAt s t os = omega arith in
             let m : max o (latestAt s t os) ≡ 0 → ⊥ = rw q at n in
@@ -65,6 +67,6 @@ module _ (s : List ℕ) (g : Signal) where
     change-sound o e = sound s g o (member-sound (chainOf s from) o h e)
 
     -- and so is its latest at a time, where there is one
-    pub latest-change-sound : (t : ℕ) → (latestAt s t (chainOf s from) ≡ 0 → ⊥) → Sound s g (latestAt s t (chainOf s from))
+    pub latest-change-sound : (t : ℤ) → (latestAt s t (chainOf s from) ≡ 0 → ⊥) → Sound s g (latestAt s t (chainOf s from))
     unfolding chainFault
     latest-change-sound t n = sound s g (latestAt s t (chainOf s from)) (latest-sound t (chainOf s from) h n)

@@ -1,24 +1,28 @@
 -- What the functions on times ask of the file, and what they answer.
-use Prim.Native.Nat.{ℕ, _+_, _*_, _≤_, _<_}
+use Prim.Native.Nat.{ℕ, _+_, _≤_, _<_}
 use mathlib.Core.Path.{_≡_}
-use mathlib.Core.Bool.{true}
+use mathlib.Core.Bool.{Bool, true}
 use mathlib.Core.List.{List, [], _∷_}
 use lib.ListN.{length}
-use lib.Dec.{ltb, leb}
-use Rattle.lxt_format.specs.Sections.{sectionOf, timeCount}
+use lib.IntN.{ℤ}
+use lib.Signed.{leZ}
+use lib.Dec.{ltb}
+use Rattle.lxt_format.specs.Sections.{endOf, wideTimes, timesAt, timeCount, timesSize}
 use Rattle.lxt_format.specs.Times.{timesAllowed, timeOf}
 use Rattle.lxt_format.specs.Changes.{dataAt}
 
--- where the time table starts, and m; it lies in the file and breaks no rule
-pub record Times (s : List ℕ) (times m : ℕ) : Type 0 where
-  pub start : times ≡ sectionOf s 0x06
+-- where the time table starts, m, and whether its times have 8 bytes; it lies in the file and breaks no rule, and so does T
+pub record Times (s : List ℕ) (times m : ℕ) (wide : Bool) : Type 0 where
+  pub start : times ≡ timesAt s
   pub count : m ≡ timeCount s
-  pub inside : times + 12 + 8 * m ≤ length s
+  pub form : wide ≡ wideTimes s
+  pub inside : times + timesSize wide m ≤ length s
+  pub end : endOf s ≤ length s
   pub allowed : timesAllowed s ≡ true
 
 -- below the offset P, and only there, a change has a time of at most t
-pub record Limit (s : List ℕ) (t P : ℕ) : Type 0 where
-  pub below : (o : ℕ) → o < length s → leb (timeOf s o) t ≡ ltb o P
+pub record Limit (s : List ℕ) (t : ℤ) (P : ℕ) : Type 0 where
+  pub below : (o : ℕ) → o < length s → leZ (timeOf s o) t ≡ ltb o P
 
 -- the command byte and the delta of each change lie in the file
 pub data Readable (s : List ℕ) : List ℕ → Type 0 where

@@ -1,76 +1,89 @@
 // The times of changes.
 ghost use mathlib.Core.Path.{_≡_};
 ghost use Rattle.lxt_format.specs.Times.{timeOf};
+ghost use Rattle.lxt_format.specs.BiasedTimes.{biased, unbiased};
 ghost use Rattle.lxt_format.specs.Changes.{chainOf};
 ghost use Rattle.lxt_format.specs.Values.{latestAt};
 ghost use Rattle.lxt_values.specs.Times.{Times, Limit, Readable};
+use crate::entries;
 use lxt_changes::delta;
-use lxt_sections::times::deltas_of;
+use lxt_sections::times::BIAS;
 
-// The time of a change at `o`, by one pass over the time table of `m` entries: that of the last entry at
-// or below `o`, of entry 0 where none is, 0 where the table is empty.
-pub fn time_of(file: &[u8], times: usize, m: u32, o: usize) -> u32
-    requires { ⌜ Times (now file) times m ⌝ }
+// A time with its bias of 2^63.
+fn with_bias(t: i64) -> u64
+    ensures { λ r. ⌜ r ≡ biased t ⌝ }
+{
+    if t < 0 {
+        return BIAS - 1 - !t as u64;
+    }
+    BIAS + t as u64
+}
+
+// A time without it.
+fn without_bias(x: u64) -> i64
+    ensures { λ r. ⌜ r ≡ unbiased x ⌝ }
+{
+    if x < BIAS {
+        return !((BIAS - 1 - x) as i64);
+    }
+    (x - BIAS) as i64
+}
+
+// The time of a change at `o`, by a pass up the time table of `m` entries: that of the last entry at or
+// below `o`, of entry 0 where none is, 0 where the table is empty. Positions never fall along the table.
+pub fn time_of(file: &[u8], times: usize, m: u32, wide: bool, o: usize) -> i64
+    requires { ⌜ Times (now file) times m wide ⌝ }
     ensures { λ r. ⌜ r ≡ timeOf (now (file .entry)) o ⌝ }
 {
     let count = m as usize;
     if count == 0 {
         return 0;
     }
-    let first = deltas_of(file, times, m, 0);
-    let mut found = first.time as u64;
-    let mut position: u64 = 0;
-    let mut time: u64 = 0;
-    let mut i: usize = 0;
-    while i < count {
-        let d = deltas_of(file, times, m, i);
-        position += d.position as u64;
-        time += d.time as u64;
-        i += 1;
-        if position <= o as u64 {
-            found = time;
+    let mut e = entries::first(file, times, m, wide);
+    while e.number + 1 < count {
+        let next = entries::following(file, times, m, wide, e);
+        if (o as u64) < next.position {
+            return without_bias(e.time);
         }
+        e = next;
     }
-    found as u32
+    without_bias(e.time)
 }
 
-// The offset below which a change has a time of at most `t`: the position of the first entry with a
-// later time, 0 where entry 0 is later, the end of the file where none is. Neither positions nor times
-// ever fall along the table, so that one pass finds it.
-fn limit(file: &[u8], times: usize, m: u32, t: u32) -> usize
-    requires { ⌜ Times (now file) times m ⌝ }
-    ensures { λ r. ⌜ Limit (now (file .entry)) t r ⌝ }
+// The offset below which a change has a time of at most `t`, which has its bias: the position of the first
+// entry with a later time, 0 where entry 0 is later, the end of the file where none is. Neither positions
+// nor times ever fall along the table, so that one pass finds it. Without an entry every time is 0.
+fn limit(file: &[u8], times: usize, m: u32, wide: bool, t: u64) -> usize
+    requires { ⌜ Times (now file) times m wide ⌝ }
+    ensures { λ r. ⌜ Limit (now (file .entry)) (unbiased t) r ⌝ }
 {
     let count = m as usize;
     if count == 0 {
+        if t < BIAS {
+            return 0;
+        }
         return file.len();
     }
-    let first = deltas_of(file, times, m, 0);
-    if t < first.time {
+    let mut e = entries::first(file, times, m, wide);
+    if t < e.time {
         return 0;
     }
-    let mut position: usize = 0;
-    let mut time: u64 = 0;
-    let mut i: usize = 0;
-    while i < count {
-        let d = deltas_of(file, times, m, i);
-        position += d.position as usize;
-        time += d.time as u64;
-        if (t as u64) < time {
-            return position;
+    while e.number + 1 < count {
+        e = entries::following(file, times, m, wide, e);
+        if t < e.time {
+            return e.position as usize;
         }
-        i += 1;
     }
     file.len()
 }
 
 // The latest change of the chain from `from` on with a time of at most `t`, or 0: the chain falls, so
 // that it is the first one below the limit.
-pub fn latest(file: &[u8], times: usize, m: u32, from: usize, t: u32) -> usize
-    requires { ⌜ Times (now file) times m × Readable (now file) (chainOf (now file) from) ⌝ }
+pub fn latest(file: &[u8], times: usize, m: u32, wide: bool, from: usize, t: i64) -> usize
+    requires { ⌜ Times (now file) times m wide × Readable (now file) (chainOf (now file) from) ⌝ }
     ensures { λ r. ⌜ r ≡ latestAt (now (file .entry)) t (chainOf (now (file .entry)) from) ⌝ }
 {
-    let end = limit(file, times, m, t);
+    let end = limit(file, times, m, wide, with_bias(t));
     let mut o = from;
     while end <= o {
         if o == 0 {

@@ -1,19 +1,11 @@
-use Rattle.lxt_c.proofs.GiveLaws.{timed-number, timed-numbers, timed-time, timed-clean}
+use mathlib.Core.Path.{sym, _∙_}
+use Rattle.lxt_c.proofs.GiveLaws.{timed-number, timed-numbers, untimed, unclean, timed-time, timed-clean}
 use borrow.Author.Needs.{needs}
 use Rattle.lxt_c.proofs.lxt_change.Statement.{statement}
 use Rattle.lxt_c.proofs.lxt_change.Tie as tie
 
 of-change-requires : tie.Need-of-change-requires
 of-change-requires c κs = search needs
-
-give-beside-requires : tie.Need-give-beside-requires
-give-beside-requires c κs = search needs
-
-yes-no-requires : tie.Need-yes-no-requires
-yes-no-requires c κs = search needs
-
-give-beside-requires-2 : tie.Need-give-beside-requires-2
-give-beside-requires-2 c κs = search needs
 
 give-value-requires : tie.Need-give-value-requires
 give-value-requires c κs = search needs
@@ -22,9 +14,35 @@ same-length : tie.Need-same-length
 same-length c = search needs
 
 returns : tie.Need-returns
-returns c = (search timed-number, (search needs, (search timed-time, (search timed-numbers, search timed-clean))))
+returns c =
+    let timed = c .before .before .before .before .before .of-change .result in
+    let read = c .before .before .before .before .before .of-change .ensures in
+    let gave = c .before .give-value .ensures in
+    let no = c .if1 .taken in
+    (timed-number _ _ _ _ timed (read .0) _ (gave .0), (read .1, (untimed _ _ _ _ timed (read .0) _ (gave .0) no _, (timed-numbers _ _ _ _ timed (read .0) _ (gave .0) _ _ (gave .1), unclean _ _ _ _ timed (read .0) _ (gave .0) no _))))
+
+yes-no-requires : tie.Need-yes-no-requires
+yes-no-requires c κs = search needs
+
+same-length-2 : tie.Need-same-length-2
+same-length-2 c = search needs
+
+returns-2 : tie.Need-returns-2
+returns-2 c =
+    let timed = c .before .before .before .before .before .before .before .of-change .result in
+    let read = c .before .before .before .before .before .before .before .of-change .ensures in
+    let gave = c .before .before .before .give-value .ensures in
+    let yes = c .before .before .if1 .left in
+    (sym yes ∙ timed-number _ _ _ _ timed (read .0) _ (gave .0), (read .1, (timed-time _ _ _ _ timed (read .0) _ (gave .0) yes (search needs) _, (timed-numbers _ _ _ _ timed (read .0) _ (gave .0) _ _ (gave .1), timed-clean _ _ _ _ timed (read .0) _ (gave .0) yes _ (c .yes-no .ensures) _))))
 
 pub lxt-change-spec : {M : Type 1} → statement M
 lxt-change-spec =
     tie.close
-    (tie.spec of-change-requires give-beside-requires yes-no-requires give-beside-requires-2 give-value-requires same-length returns)
+    (tie.spec
+    of-change-requires
+    give-value-requires
+    same-length
+    returns
+    yes-no-requires
+    same-length-2
+    returns-2)

@@ -21,17 +21,14 @@ body-requires-3 c κs = search needs
 body-requires-4 : tie.Need-body-requires-4
 body-requires-4 c κs = search needs
 
-mul-body-3 : tie.Need-mul-body-3
-mul-body-3 c = search needs
-
-add-body : tie.Need-add-body
-add-body c = search needs
-
 body-requires-5 : tie.Need-body-requires-5
 body-requires-5 c κs = search needs
 
 body-requires-6 : tie.Need-body-requires-6
 body-requires-6 c κs = search needs
+
+body-requires-7 : tie.Need-body-requires-7
+body-requires-7 c κs = search needs
 
 lies-requires : tie.Need-lies-requires
 lies-requires c κs = search needs
@@ -49,9 +46,8 @@ all-inside-spec =
     mul-body-2
     body-requires-3
     body-requires-4
-    mul-body-3
-    add-body
     body-requires-5
     body-requires-6
+    body-requires-7
     lies-requires
     returns)

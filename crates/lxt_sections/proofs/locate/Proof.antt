@@ -45,9 +45,8 @@ returns-5 c = search (seven, not-true, not-false)
 
 counted-requires : tie.Need-counted-requires
 counted-requires c κs =
-    let places = c .before .before .before .before .before .before in
-    ready _ _ (places .before .before .frame .ensures) (places .before .if1 .left) _ (places .placed .ensures)
-    (not-false _ (c .before .before .before .before .if2 .left)) (c .before .before .before .if3 .left) (c .before .before .if4 .left) _
+    let places = c .before .before .before .before .before .before .before .before in
+    ready _ _ (c .before .before .before .before .before .before .before .before .before .before .frame .ensures) (c .before .before .before .before .before .before .before .before .before .if1 .left) _ (places .placed .ensures) (not-false _ (c .before .before .before .before .before .before .if2 .left)) (c .before .before .before .before .before .if3 .left) (c .before .before .if4 .left) _
     (c .before .all-present .ensures) (not-false _ (c .if5 .left))
 
 returns-6 : tie.Need-returns-6

@@ -1,6 +1,5 @@
 use native.Mathlib.Omega.{arith}
-use Rattle.lxt_format.specs.BytesLaws.{AreBytes}
-use Rattle.lxt_print.proofs.StepLaws.{take-asks, none-left, down-asks, time-small, here, number-below, number-small, stepped}
+use Rattle.lxt_print.proofs.StepLaws.{take-asks, none-left, down-asks, here, number-below, number-small, stepped}
 use borrow.Author.Needs.{needs}
 use Rattle.lxt_print.proofs.changes.next.Statement.{statement}
 use Rattle.lxt_print.proofs.changes.next.Tie as tie
@@ -41,24 +40,15 @@ cast-change c =
     let taken = took .take-highest .ensures in
     omega (arith, number-small _ _ (pre .0) _ _ (pre .1 .0) _ _ (taken .0 .0) (taken .0 .1 .0) (tested .if1 .left))
 
-cast-change-2 : tie.Need-cast-change-2
-cast-change-2 c =
-    let tested = c .before .before .before .before in
-    let took = tested .before .before .before in
-    let pre = took .before .before .before .before .before .pre in
-    let taken = took .take-highest .ensures in
-    let bytes : AreBytes (took .before .before .before .before .before .args .file .now) = λ i. omega (arith, took .before .before .before .before .shared-slice-known .given i) in
-    omega (arith, time-small _ _ (pre .0) _ _ (pre .1 .0) _ _ (taken .0 .0) (taken .0 .1 .0) (tested .if1 .left) bytes _ (c .before .before .down .ensures .1))
-
 change-requires : tie.Need-change-requires
 change-requires c κs =
-    let tested = c .before .before .before .before .before in
+    let tested = c .before .before .before .before in
     let took = tested .before .before .before in
     let pre = took .before .before .before .before .before .pre in
     let taken = took .take-highest .ensures in
     let below = number-below _ _ (pre .0) _ _ (pre .1 .0) _ _ (taken .0 .0) (taken .0 .1 .0) (tested .if1 .left) in
     let allowed = here _ _ (pre .0) _ _ (pre .1 .0) _ _ (taken .0 .0) (taken .0 .1 .0) (tested .if1 .left) in
-    (pre .0, (below, (allowed, (c .before .before .before .down .ensures .1, pre .1 .1 .1))))
+    (pre .0, (below, (allowed, (c .before .before .down .ensures .1, pre .1 .1 .1))))
 
 same-length-2 : tie.Need-same-length-2
 same-length-2 c = search needs
@@ -68,12 +58,12 @@ same-length-3 c = search needs
 
 returns-2 : tie.Need-returns-2
 returns-2 c =
-    let tested = c .before .before .before .before .before .before .before .before in
+    let tested = c .before .before .before .before .before .before .before in
     let took = tested .before .before .before in
     let pre = took .before .before .before .before .before .pre in
     let taken = took .take-highest .ensures in
     let put = c .before .before .change .ensures in
-    let down = c .before .before .before .before .before .before .down .ensures in
+    let down = c .before .before .before .before .before .down .ensures in
     stepped _ _ (pre .0) _ _ (pre .1 .0) _ _ (taken .0 .0) (taken .0 .1 .0) (tested .if1 .left) _ (taken .1 .0) (taken .1 .1) _ (down .0) _ _ _ (put .0) (put .1)
 
 pub next-spec : {M : Type 1} → statement M
@@ -87,7 +77,6 @@ next-spec =
     cast-down-2
     down-requires
     cast-change
-    cast-change-2
     change-requires
     same-length-2
     same-length-3

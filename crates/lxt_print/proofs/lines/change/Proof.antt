@@ -20,7 +20,10 @@ same-length : tie.Need-same-length
 same-length c = search needs
 
 returns : tie.Need-returns
-returns c = line-ended (change-line _ _ _ _ (c .before .before .before .before .before .before .before .before .before .before .before .before .before .before .before .pre .1 .1 .1 .0)) (put-more (put-more (c .before .before .before .before .before .before .before .before .before .before .before .put-change .ensures .0) (c .before .before .before .before .before .before .before .put-value .ensures .0)) (c .before .before .put-bytes .ensures))
+returns c =
+    let start = c .before .before .before .before .before .before .before .before .before .before .before .before .before .before .before in
+    let line = put-more (put-more (c .before .before .before .before .before .before .before .before .before .before .before .put-change .ensures .0) (c .before .before .before .before .before .before .before .put-value .ensures .0)) (c .before .before .put-bytes .ensures) in
+    line-ended (change-line _ _ (start .pre .0) _ _ _ (start .pre .1 .1 .1 .0)) line
 
 pub change-spec : {M : Type 1} → statement M
 change-spec =

@@ -1,3 +1,4 @@
+use Rattle.lxt_values.proofs.BiasLaws.{latest-at}
 use Rattle.lxt_reader.proofs.ValueWays.{value-refused, value-short, latest-asks, start-asks, value-start, value-readies, value-given}
 use borrow.Author.Needs.{needs}
 use Rattle.lxt_reader.proofs.values.at_time.Statement.{statement}
@@ -7,13 +8,17 @@ find-chain-requires : tie.Need-find-chain-requires
 find-chain-requires c κs = search needs
 
 returns : tie.Need-returns
-returns c = value-refused _ _ _ (c .before .before .before .before .before .args .bits .now) _ (c .before .before .find-chain .ensures) (c .if1 .taken)
+returns c =
+    let start = c .before .before .before .before .before in
+    value-refused _ _ _ (start .args .bits .now) _ (c .before .before .find-chain .ensures) (c .if1 .taken)
 
 cast-if2 : tie.Need-cast-if2
 cast-if2 c = search needs
 
 returns-2 : tie.Need-returns-2
-returns-2 c = value-short _ _ _ (c .before .before .before .before .before .before .before .before .args .bits .now) _ (c .before .before .before .before .before .find-chain .ensures) (c .before .before .before .if1 .left) (c .if2 .taken)
+returns-2 c =
+    let start = c .before .before .before .before .before .before .before .before in
+    value-short _ _ _ (start .args .bits .now) _ (c .before .before .before .before .before .find-chain .ensures) (c .before .before .before .if1 .left) (c .if2 .taken)
 
 cast-latest : tie.Need-cast-latest
 cast-latest c = search needs
@@ -22,25 +27,42 @@ cast-latest-2 : tie.Need-cast-latest-2
 cast-latest-2 c = search needs
 
 latest-requires : tie.Need-latest-requires
-latest-requires c κs = latest-asks _ _ (c .before .before .before .before .before .before .before .before .before .before .before .args .time) (c .before .before .before .before .before .before .before .before .before .before .before .args .bits .now) _ (c .before .before .before .before .before .before .before .before .find-chain .ensures) (c .before .before .before .before .before .before .if1 .left)
+latest-requires c κs =
+    let start = c .before .before .before .before .before .before .before .before .before .before .before in
+    latest-asks _ _ (start .args .time) (start .args .bits .now) _ (c .before .before .before .before .before .before .before .before .find-chain .ensures) (c .before .before .before .before .before .before .if1 .left)
 
 initial-requires : tie.Need-initial-requires
-initial-requires c κs = start-asks _ _ (c .before .before .before .before .before .before .before .before .before .before .before .before .before .before .args .time) (c .before .before .before .before .before .before .before .before .before .before .before .before .before .before .args .bits .now) _ (c .before .before .before .before .before .before .before .before .before .before .before .find-chain .ensures) (c .before .before .before .before .before .before .before .before .before .if1 .left) (c .before .before .before .before .before .before .if2 .left)
+initial-requires c κs =
+    let start = c .before .before .before .before .before .before .before .before .before .before .before .before .before .before in
+    start-asks _ _ (start .args .time) (start .args .bits .now) _ (c .before .before .before .before .before .before .before .before .before .before .before .find-chain .ensures) (c .before .before .before .before .before .before .before .before .before .if1 .left) (c .before .before .before .before .before .before .if2 .left)
 
 same-length : tie.Need-same-length
 same-length c = search needs
 
 returns-3 : tie.Need-returns-3
-returns-3 c = value-start _ _ _ (c .before .before .before .before .before .before .before .before .before .before .before .before .before .before .before .before .before .args .bits .now) _ (c .before .before .before .before .before .before .before .before .before .before .before .before .before .before .find-chain .ensures) (c .before .before .before .before .before .before .before .before .before .before .before .before .if1 .left) (c .before .before .before .before .before .before .before .before .before .if2 .left) _ (c .before .before .before .before .before .latest .ensures) (c .before .before .before .before .if3 .taken) _ _ (c .before .before .initial .ensures .0) (c .before .before .initial .ensures .1)
+returns-3 c =
+    let start = c .before .before .before .before .before .before .before .before .before .before .before .before .before .before .before .before .before in
+    let answer = c .before .before in
+    let latest = latest-at _ _ (start .fits .time) _ _ (c .before .before .before .before .before .latest .ensures) in
+    value-start _ _ _ (start .args .bits .now) _ (c .before .before .before .before .before .before .before .before .before .before .before .before .before .before .find-chain .ensures) (c .before .before .before .before .before .before .before .before .before .before .before .before .if1 .left) (c .before .before .before .before .before .before .before .before .before .if2 .left) _ latest (c .before .before .before .before .if3 .taken)
+    _ _ (answer .initial .ensures .0) (answer .initial .ensures .1)
 
 read-requires : tie.Need-read-requires
-read-requires c κs = value-readies _ _ (c .before .before .before .before .before .before .before .before .before .before .before .before .before .before .before .args .time) (c .before .before .before .before .before .before .before .before .before .before .before .before .before .before .before .args .bits .now) _ (c .before .before .before .before .before .before .before .before .before .before .before .before .find-chain .ensures) (c .before .before .before .before .before .before .before .before .before .before .if1 .left) (c .before .before .before .before .before .before .before .if2 .left) _ (c .before .before .before .latest .ensures) (c .before .before .if3 .left)
+read-requires c κs =
+    let start = c .before .before .before .before .before .before .before .before .before .before .before .before .before .before .before in
+    let latest = latest-at _ _ (start .fits .time) _ _ (c .before .before .before .latest .ensures) in
+    value-readies _ _ (start .args .time) (start .args .bits .now) _ (c .before .before .before .before .before .before .before .before .before .before .before .before .find-chain .ensures) (c .before .before .before .before .before .before .before .before .before .before .if1 .left) (c .before .before .before .before .before .before .before .if2 .left) _ latest (c .before .before .if3 .left)
 
 same-length-2 : tie.Need-same-length-2
 same-length-2 c = search needs
 
 returns-4 : tie.Need-returns-4
-returns-4 c = value-given _ _ _ (c .before .before .before .before .before .before .before .before .before .before .before .before .before .before .before .before .before .before .args .bits .now) _ (c .before .before .before .before .before .before .before .before .before .before .before .before .before .before .before .find-chain .ensures) (c .before .before .before .before .before .before .before .before .before .before .before .before .before .if1 .left) (c .before .before .before .before .before .before .before .before .before .before .if2 .left) _ (c .before .before .before .before .before .before .latest .ensures) (c .before .before .before .before .before .if3 .left) _ _ (c .before .before .read .ensures .0) (c .before .before .read .ensures .1)
+returns-4 c =
+    let start = c .before .before .before .before .before .before .before .before .before .before .before .before .before .before .before .before .before .before in
+    let answer = c .before .before in
+    let latest = latest-at _ _ (start .fits .time) _ _ (c .before .before .before .before .before .before .latest .ensures) in
+    value-given _ _ _ (start .args .bits .now) _ (c .before .before .before .before .before .before .before .before .before .before .before .before .before .before .before .find-chain .ensures) (c .before .before .before .before .before .before .before .before .before .before .before .before .before .if1 .left) (c .before .before .before .before .before .before .before .before .before .before .if2 .left) _ latest (c .before .before .before .before .before .if3 .left)
+    _ _ (answer .read .ensures .0) (answer .read .ensures .1)
 
 pub at-time-spec : {M : Type 1} → statement M
 at-time-spec =

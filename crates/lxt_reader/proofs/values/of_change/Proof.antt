@@ -76,7 +76,7 @@ returns-3 c =
     let accepted = enough .before .before .before in
     let found = accepted .before .before in
     let entry = found .before .before .before in
-    change-given _ _ _ (entry .args .bits .now) _ (found .find-change .ensures) (accepted .if1 .left) (enough .if2 .left) _ (timed .time-of .ensures) _ _
+    change-given _ _ _ (entry .args .bits .now) _ (found .find-change .ensures) (accepted .if1 .left) (enough .if2 .left) _ (timed .time-of .ok) (timed .time-of .ensures) _ _
     (value .read .ensures .0) (value .read .ensures .1) _ (padding .is-clean .ensures)
 
 pub of-change-spec : {M : Type 1} → statement M

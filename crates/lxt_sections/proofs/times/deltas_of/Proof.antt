@@ -1,3 +1,4 @@
+use Rattle.lxt_sections.proofs.LayoutLaws.{position-inside, delta-inside, deltas-are}
 use borrow.Author.Needs.{needs}
 use Rattle.lxt_sections.proofs.times.deltas_of.Statement.{statement}
 use Rattle.lxt_sections.proofs.times.deltas_of.Tie as tie
@@ -12,22 +13,18 @@ add-be32 : tie.Need-add-be32
 add-be32 c = search needs
 
 be32-requires : tie.Need-be32-requires
-be32-requires c κs = search needs
+be32-requires c κs = search position-inside
 
 steps-at-requires : tie.Need-steps-at-requires
 steps-at-requires c κs = search needs
 
-mul-be32-2 : tie.Need-mul-be32-2
-mul-be32-2 c = search needs
-
-add-be32-2 : tie.Need-add-be32-2
-add-be32-2 c = search needs
-
-be32-requires-2 : tie.Need-be32-requires-2
-be32-requires-2 c κs = search needs
+time-at-requires : tie.Need-time-at-requires
+time-at-requires c κs =
+    let start = c .before .before .before .before in
+    delta-inside (start .args .wide) _ _ _ _ _ (start .pre .0) (start .fits .m .fits) (start .pre .1) (c .steps-at .ensures)
 
 returns : tie.Need-returns
-returns c = ((cc), (cc))
+returns c = deltas-are _ _ _ _ _ _ _ _ (c .before .before .before .positions-at .ensures .0) (c .before .before .be32 .ensures) _ (c .before .steps-at .ensures) (c .time-at .ensures)
 
 pub deltas-of-spec : {M : Type 1} → statement M
 deltas-of-spec =
@@ -38,7 +35,5 @@ deltas-of-spec =
     add-be32
     be32-requires
     steps-at-requires
-    mul-be32-2
-    add-be32-2
-    be32-requires-2
+    time-at-requires
     returns)

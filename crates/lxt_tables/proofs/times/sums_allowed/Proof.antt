@@ -1,36 +1,44 @@
+use native.Mathlib.Omega.{arith}
 use borrow.Author.Needs.{needs}
 use borrow.Author.Tests.{not-true, not-false}
-use Rattle.lxt_format.specs.Bytes.{u32sAt}
-use Rattle.lxt_tables.proofs.TimesLaws.{sumsWithin, Summing, sums-begun, sums-end, sums-stop, sums-turn}
+use lib.ListN.{drop}
+use Prim.Native.Nat.{_-_}
+use Rattle.lxt_format.specs.Bytes.{numbersAt}
+use Rattle.lxt_format.specs.Sections.{timeBytes}
+use Rattle.lxt_tables.specs.Asked.{risesTo}
+use Rattle.lxt_tables.proofs.TimesLaws.{Summing, delta-there, sums-begun, sums-end, sums-stop, no-wrap, sums-turn}
 use Rattle.lxt_tables.proofs.times.sums_allowed.Statement.{statement}
 use Rattle.lxt_tables.proofs.times.sums_allowed.Tie as tie
 
 abbrev Inv-loop : tie.InvT-loop
-Inv-loop file at m low high p₀ left₀ sum₀ p left sum = Summing file low high (sumsWithin low high 0 (u32sAt m file at)) p left sum
+Inv-loop file at wide m first high count sum₀ i₀ sum i =
+    Summing file (timeBytes wide) m at high (risesTo high first (drop 1 (numbersAt (timeBytes wide) m file at))) i sum
 
 abbrev μ-loop : tie.MeasureT-loop
-μ-loop file at m low high p₀ left₀ sum₀ p left sum = left
+μ-loop file at wide m first high count sum₀ i₀ sum i = m - i
 
 loop-holds : tie.Need-loop-holds Inv-loop μ-loop
 loop-holds c = search sums-begun
 
-be32-requires : tie.Need-be32-requires Inv-loop μ-loop
-be32-requires c κs = search needs
+time-at-requires : tie.Need-time-at-requires Inv-loop μ-loop
+time-at-requires c κs =
+    let start = c .before .before .before in
+    delta-there (start .args .wide) _ _ _ _ (start .pre .0) (start .fits .m .fits) (c .loop-test .taken)
 
-cast-next : tie.Need-cast-next Inv-loop μ-loop
-cast-next c = search needs
-
-add-next : tie.Need-add-next Inv-loop μ-loop
-add-next c = search needs
+sub-allowed : tie.Need-sub-allowed Inv-loop μ-loop
+sub-allowed c = search needs
 
 returns : tie.Need-returns Inv-loop μ-loop
 returns c = search (sums-stop, not-true)
 
-add-p : tie.Need-add-p Inv-loop μ-loop
-add-p c = search needs
+add-sum : tie.Need-add-sum Inv-loop μ-loop
+add-sum c =
+    let loop = c .before .before .before in
+    let sum = no-wrap _ _ _ _ _ _ _ _ (loop .loop .inv) (c .before .before .loop-test .taken) _ (c .before .time-at .ensures) (not-false _ (c .if1 .left)) in
+    record { fits = omega (arith, sum, loop .before .before .fits .high .fits) }
 
-sub-left : tie.Need-sub-left Inv-loop μ-loop
-sub-left c = search needs
+add-i : tie.Need-add-i Inv-loop μ-loop
+add-i c = search needs
 
 loop-less : tie.Need-loop-less Inv-loop μ-loop
 loop-less c = search needs
@@ -48,12 +56,11 @@ sums-allowed-spec =
     Inv-loop
     μ-loop
     loop-holds
-    be32-requires
-    cast-next
-    add-next
+    time-at-requires
+    sub-allowed
     returns
-    add-p
-    sub-left
+    add-sum
+    add-i
     loop-less
     loop-again
     returns-2)

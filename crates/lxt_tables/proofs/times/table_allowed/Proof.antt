@@ -1,57 +1,60 @@
-use Rattle.lxt_tables.proofs.TimesLaws.{table-is}
+use borrow.Author.Tests.{not-true, not-false}
+use native.Mathlib.Omega.{arith}
+use Rattle.lxt_tables.proofs.TimesLaws.{positions-there, times-there, position-low, time-low, table-stop, table-is}
 use borrow.Author.Needs.{needs}
 use Rattle.lxt_tables.proofs.times.table_allowed.Statement.{statement}
 use Rattle.lxt_tables.proofs.times.table_allowed.Tie as tie
 
-add-be32 : tie.Need-add-be32
-add-be32 c = search needs
+head-of-requires : tie.Need-head-of-requires
+head-of-requires c κs = search needs
 
-be32-requires : tie.Need-be32-requires
-be32-requires c κs = search needs
+sub-most : tie.Need-sub-most
+sub-most c = search needs
 
-cast-first : tie.Need-cast-first
-cast-first c = search needs
-
-add-be32-2 : tie.Need-add-be32-2
-add-be32-2 c = search needs
-
-be32-requires-2 : tie.Need-be32-requires-2
-be32-requires-2 c κs = search needs
-
-cast-last : tie.Need-cast-last
-cast-last c = search needs
+returns : tie.Need-returns
+returns c =
+    let head = c .before .before .before .before .before in
+    let start = c .before .before .before .before .before .before .before in
+    table-stop _ _ _ _ _ (start .pre .0) (start .pre .1) (omega (arith, start .pre .0 .high)) _ _ _ _ (head .head-of .ensures) (not-true _ (c .if1 .taken))
 
 positions-at-requires : tie.Need-positions-at-requires
 positions-at-requires c κs = search needs
 
-sub-sums-allowed : tie.Need-sub-sums-allowed
-sub-sums-allowed c = search needs
-
 sums-allowed-requires : tie.Need-sums-allowed-requires
-sums-allowed-requires c κs = search needs
+sums-allowed-requires c κs =
+    let head = c .before .before .before .before .before .before in
+    let start = c .before .before .before .before .before .before .before .before in (
+      positions-there (start .args .wide) _ _ _ _ (start .pre .0 .inside) (c .positions-at .ensures .0),
+      position-low _ _ _ _ _ (start .pre .0) (start .pre .1) (omega (arith, start .pre .0 .high)) _ _ _ _ (head .head-of .ensures) (not-false _ (c .before .if1 .left)),
+    )
 
 steps-at-requires : tie.Need-steps-at-requires
 steps-at-requires c κs = search needs
 
 sums-allowed-requires-2 : tie.Need-sums-allowed-requires-2
-sums-allowed-requires-2 c κs = search needs
+sums-allowed-requires-2 c κs =
+    let head = c .before .before .before .before .before .before .before .before in
+    let start = c .before .before .before .before .before .before .before .before .before .before in (
+      times-there (start .args .wide) _ _ _ _ (start .pre .0 .inside) (c .steps-at .ensures),
+      time-low _ _ _ _ _ (start .pre .0) (start .pre .1) (omega (arith, start .pre .0 .high)) _ _ _ _ (head .head-of .ensures) (not-false _ (c .before .before .before .if1 .left)),
+    )
 
-returns : tie.Need-returns
-returns c = search table-is
+returns-2 : tie.Need-returns-2
+returns-2 c =
+    let head = c .before .before .before .before .before .before .before .before .before in
+    let start = c .before .before .before .before .before .before .before .before .before .before .before in
+    table-is _ _ _ _ _ (start .pre .0) (start .pre .1) (omega (arith, start .pre .0 .high)) _ _ _ _ (head .head-of .ensures) (not-false _ (c .before .before .before .before .if1 .left))
+    _ (c .before .before .before .positions-at .ensures .0) _ (c .before .before .sums-allowed .ensures) _ (c .before .steps-at .ensures) _ (c .sums-allowed2 .ensures)
 
 pub table-allowed-spec : {M : Type 1} → statement M
 table-allowed-spec =
     tie.close
     (tie.spec
-    add-be32
-    be32-requires
-    cast-first
-    add-be32-2
-    be32-requires-2
-    cast-last
+    head-of-requires
+    sub-most
+    returns
     positions-at-requires
-    sub-sums-allowed
     sums-allowed-requires
     steps-at-requires
     sums-allowed-requires-2
-    returns)
+    returns-2)

@@ -1,62 +1,45 @@
 use borrow.Author.Needs.{needs}
+use mathlib.Core.Path.{refl}
+use native.Mathlib.Omega.{arith}
 use Rattle.lxt_values.specs.Entries.{Latest}
-use Rattle.lxt_values.proofs.EntryLaws.{above-zero, down-found, down-first, down-next, position-above, time-above}
+use Rattle.lxt_values.proofs.EntryLaws.{above-zero, down-found, down-first, down-next}
 use Rattle.lxt_values.proofs.entries.down.Statement.{statement}
 use Rattle.lxt_values.proofs.entries.down.Tie as tie
 
 abbrev Inv-loop : tie.InvT-loop
-Inv-loop file times m o number₀ position₀ time₀ number position time = Latest file o number position time
+Inv-loop file times m wide o entry₀ entry = Latest file o (entry .number) (entry .position) (entry .time)
 
 abbrev μ-loop : tie.MeasureT-loop
-μ-loop file times m o number₀ position₀ time₀ number position time = number
+μ-loop file times m wide o entry₀ entry = entry .number
 
 loop-holds : tie.Need-loop-holds Inv-loop μ-loop
-loop-holds c = search needs
+loop-holds c = c .before .pre .1
 
 returns : tie.Need-returns Inv-loop μ-loop
-returns c = (search needs, search down-found)
+returns c =
+    let start = c .before .before .before .before .before .before in
+    let inv = c .before .before .before .before .loop .inv in
+    (inv, down-found _ _ _ (start .args .wide) (start .pre .0) (omega (arith, inv .here .within, start .pre .0 .count)) _ _ _ _ inv (c .if2 .taken))
 
-deltas-of-requires : tie.Need-deltas-of-requires Inv-loop μ-loop
-deltas-of-requires c κs = search needs
-
-cast-position : tie.Need-cast-position Inv-loop μ-loop
-cast-position c = search needs
-
-sub-position : tie.Need-sub-position Inv-loop μ-loop
-sub-position c = search (position-above, above-zero)
-
-cast-time : tie.Need-cast-time Inv-loop μ-loop
-cast-time c = search needs
-
-sub-time : tie.Need-sub-time Inv-loop μ-loop
-sub-time c = search (time-above, above-zero)
-
-sub-number : tie.Need-sub-number Inv-loop μ-loop
-sub-number c = search needs
+preceding-requires : tie.Need-preceding-requires Inv-loop μ-loop
+preceding-requires c κs = (c .before .before .before .before .before .before .pre .0, (c .before .before .before .before .loop .inv .here, above-zero _ _ (c .before .before .if1 .taken)))
 
 loop-less : tie.Need-loop-less Inv-loop μ-loop
-loop-less c = search needs
+loop-less c = omega (arith, c .preceding .ensures .1)
 
 loop-again : tie.Need-loop-again Inv-loop μ-loop
-loop-again c = search (down-next, above-zero)
+loop-again c =
+    let start = c .before .before .before .before .before .before .before in
+    let inv = c .before .before .before .before .before .loop .inv in
+    down-next _ _ _ (start .args .wide) (start .pre .0) (omega (arith, inv .here .within, start .pre .0 .count)) _ _ _ _ inv (c .before .if2 .left) _ _ _ (c .preceding .ensures .0) (c .preceding .ensures .1)
 
 returns-2 : tie.Need-returns-2 Inv-loop μ-loop
-returns-2 c = (search needs, search down-first)
+returns-2 c =
+    let start = c .before .before .before .before in
+    let inv = c .before .before .loop .inv in
+    (inv, down-first _ _ _ (start .args .wide) (start .pre .0) (omega (arith, inv .here .within, start .pre .0 .count)) _ _ _ _ inv (c .if1 .left))
 
 pub down-spec : {M : Type 1} → statement M
 down-spec =
     tie.close
-    (tie.spec
-    Inv-loop
-    μ-loop
-    loop-holds
-    returns
-    deltas-of-requires
-    cast-position
-    sub-position
-    cast-time
-    sub-time
-    sub-number
-    loop-less
-    loop-again
-    returns-2)
+    (tie.spec Inv-loop μ-loop loop-holds returns preceding-requires loop-less loop-again returns-2)
