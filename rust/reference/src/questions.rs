@@ -96,7 +96,7 @@ impl<'a> Judged<'a> {
         })
     }
 
-    pub fn value_at(&self, facility: u32, time: u32, bits: &mut [u8]) -> Result<Value, u8> {
+    pub fn value_at(&self, facility: u32, time: i64, bits: &mut [u8]) -> Result<Value, u8> {
         let facility = self.facility(facility)?;
         self.bits_room(facility, bits)?;
         // The chain's first change is that of highest offset.
@@ -166,7 +166,7 @@ impl<'a> Judged<'a> {
     }
 
     /// Position and time of each entry of the times, in the order of the table.
-    pub fn entries(&self) -> Vec<(u32, u32)> {
+    pub fn entries(&self) -> Vec<(u32, i64)> {
         let entries = self.trace.times.iter();
         entries.map(|entry| (entry.position, entry.time)).collect()
     }
@@ -223,7 +223,7 @@ pub fn change(file: &[u8], facility: u32, offset: u32, bits: &mut [u8]) -> Resul
 }
 
 /// The value at a time: that of the change of highest offset with time <= `time`.
-pub fn value_at(file: &[u8], facility: u32, time: u32, bits: &mut [u8]) -> Result<Value, u8> {
+pub fn value_at(file: &[u8], facility: u32, time: i64, bits: &mut [u8]) -> Result<Value, u8> {
     Judged::new(file)?.value_at(facility, time, bits)
 }
 
