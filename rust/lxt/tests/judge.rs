@@ -51,8 +51,9 @@ fn all_traces_of_the_folder() {
     }
     println!("{seen:?}");
     assert!(seen.answers[&0] >= 20, "{seen:?}");
-    // One has two time entries at one position.
+    // One has two time entries at one position, and two have 64-bit times.
     assert!(seen.times.shared >= 1, "{seen:?}");
+    assert!(seen.times.long >= 2, "{seen:?}");
 }
 
 #[test]
@@ -80,7 +81,7 @@ fn generated_files_reach_every_refusal_of_a_file() {
         assert!(seen.padding[&clean] >= 500, "{seen:?}");
     }
     let times = seen.times;
-    for count in [times.rising, times.shared, times.equal] {
+    for count in [times.rising, times.shared, times.equal, times.long] {
         assert!(count >= 1_000, "{seen:?}");
     }
 }
@@ -93,4 +94,5 @@ fn hostile_files_are_judged_alike() {
     }
     println!("{seen:?}");
     assert!(seen.times.shared >= 5, "{seen:?}");
+    assert!(seen.times.long >= 40, "{seen:?}");
 }

@@ -171,6 +171,11 @@ impl<'a> Judged<'a> {
         entries.map(|entry| (entry.position, entry.time)).collect()
     }
 
+    /// Whether the times are those of tag 09.
+    pub fn has_long_times(&self) -> bool {
+        self.trace.long_times
+    }
+
     /// The full list of a walk (paper 01, "The whole walk"): the chain of each root asked for,
     /// itself or by an alias, once; all pairs of root number and offset by falling offset.
     pub fn full_list(&self, asked: &[u8]) -> Result<Vec<(u32, u32)>, u8> {

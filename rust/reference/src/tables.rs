@@ -42,6 +42,8 @@ pub(crate) struct Trace<'a> {
     pub sync: Vec<u32>,
     /// In the order of the table: positions never fall, and times never fall.
     pub times: Vec<Entry>,
+    /// Whether the times are those of tag 09.
+    pub long_times: bool,
     /// Byte i, lowest first, of every real is data byte `real_order[i]`. All 0 where no root is of
     /// kind real.
     pub real_order: [usize; 8],
@@ -104,6 +106,7 @@ pub(crate) fn read_tables(file: &[u8]) -> Result<Trace<'_>, u8> {
         facts,
         sync,
         times,
+        long_times: table.time_bytes == 8,
         real_order,
     })
 }
