@@ -397,9 +397,7 @@ pub fn compare(file: &[u8], what: &str, most: Most, seen: &mut Seen) {
         let mut room = vec![0; facts.width as usize];
         let read = |offset: &u32| judged.change(facility, *offset, &mut room);
         let times = own.iter().map(read).map(|it| it.expect("a change").time);
-        // Of the table's times some, with the first and the last.
-        let of_table = sample(&asked.entries.times(), 6);
-        let of_changes = around_times(&Vec::from_iter(times.chain(of_table)));
+        let of_changes = around_times(&Vec::from_iter(times));
         // Of entries at one position also the times that do not decide, and others between them.
         let (mut others, mut between) = (Vec::new(), Vec::new());
         for shared in own.iter().filter_map(|it| asked.entries.shared(*it)) {
@@ -414,6 +412,9 @@ pub fn compare(file: &[u8], what: &str, most: Most, seen: &mut Seen) {
         let shows = |time: &&i64| between.iter().any(|it| it.contains(time));
         let shown = times.iter().filter(shows).count() as u64;
         times.extend(of_changes);
+        // And of the table all times, or some with the first and the last.
+        let of_table = sample(&asked.entries.times(), most.changes.max(6));
+        times.extend(around_times(&of_table));
 
         let mut offsets = around(&own);
         offsets.extend(around(&[summary.changes, summary.end]));
