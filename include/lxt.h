@@ -52,9 +52,10 @@ enum lxt_refusal {
     LXT_REFUSED_SECTION_LIST = 4,
     /* a section is compressed (tags 0A to 12), which is not read here */
     LXT_REFUSED_COMPRESSED = 5,
-    /* the times section has 64-bit times (tag 09), which are not read here */
-    LXT_REFUSED_LONG_TIMES = 6,
-    /* the changes, sync, names, geometry or times section (tags 01, 02, 03, 04, 06) is absent */
+    /* there are both 32-bit times (tag 06) and 64-bit times (tag 09) */
+    LXT_REFUSED_TWO_TIMES = 6,
+    /* the changes, sync, names or geometry section (tags 01, 02, 03, 04) is absent, or both times
+       sections (tags 06 and 09) are */
     LXT_REFUSED_ABSENT = 7,
     /* the changes start outside offset 4 to END, or the sync, names, geometry, timescale, times or
        initial value section does not lie there */
@@ -68,8 +69,8 @@ enum lxt_refusal {
     LXT_REFUSED_GEOMETRY = 11,
     /* in the geometry section an alias leads to no facility, or in a circle */
     LXT_REFUSED_ALIAS = 12,
-    /* in the times section a position or a time is out of bounds, or there is no entry although there
-       are changes */
+    /* in the times section a position or a time is out of bounds, a time delta after the first is
+       negative, or there is no entry although there are changes */
     LXT_REFUSED_TIMES = 13,
     /* there is a real facility, and the real test section (tag 08) is absent, out of bounds or no
        reordering of 3.14159 */
@@ -164,12 +165,15 @@ typedef struct {
     uint64_t length;
 } lxt_value;
 
+/* Times are signed numbers of 64 bits: 0 to 4,294,967,295 in a file with 32-bit times (tag 06), and any, below
+ * 0 too, in one with 64-bit times (tag 09). */
+
 /* The time and the value of the change at an offset, and clean: 1 where its padding is clean, else 0. */
 uint32_t lxt_change(const uint8_t *file, size_t length, uint32_t facility, uint32_t offset, uint8_t *bits,
-                    size_t room, uint32_t *time, lxt_value *value, uint32_t *clean);
+                    size_t room, int64_t *time, lxt_value *value, uint32_t *clean);
 
-/* The value at a time: that of the change of highest offset whose time is at most that. */
-uint32_t lxt_value_at(const uint8_t *file, size_t length, uint32_t facility, uint32_t time, uint8_t *bits,
+/* The value at a time, which may be any: that of the change of highest offset whose time is at most that. */
+uint32_t lxt_value_at(const uint8_t *file, size_t length, uint32_t facility, int64_t time, uint8_t *bits,
                       size_t room, lxt_value *value);
 
 /* The walk: all changes of the facilities asked for, the highest offset first, in calls of any size. All

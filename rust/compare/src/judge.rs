@@ -35,6 +35,8 @@ pub struct Times {
     pub shared: u32,
     /// Several entries have one time.
     pub equal: u32,
+    /// The times have 64 bits.
+    pub long: u32,
 }
 
 /// Judges a file both ways and counts the answer.
@@ -60,5 +62,6 @@ pub fn compare(file: &[u8], what: &str, seen: &mut Seen) {
         seen.times.rising += u32::from(!shared && !equal);
         seen.times.shared += u32::from(shared);
         seen.times.equal += u32::from(equal);
+        seen.times.long += u32::from(judged.has_long_times());
     }
 }

@@ -137,4 +137,17 @@ impl Compared {
             ("values between the times of one position", between),
         ]
     }
+
+    /// How many times 64-bit times were met: accepted files with them, and times outside 32 bits.
+    pub fn long_times(&self) -> [(&'static str, u64); 6] {
+        let [below, past, asked_below, asked_past, asked_outside] = self.questions.outside();
+        [
+            ("files with 64-bit times", self.judged.times.long.into()),
+            ("changes of times below 0", below),
+            ("changes of times past 32 bits", past),
+            ("values below 0 by 64-bit times", asked_below),
+            ("values past 32 bits by 64-bit times", asked_past),
+            ("values outside 32 bits by 32-bit times", asked_outside),
+        ]
+    }
 }

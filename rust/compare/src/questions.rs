@@ -48,7 +48,7 @@ pub const ALL: Most = Most {
 };
 
 /// At most so many of a list, evenly, with its first and last one.
-fn sample(list: &[u32], most: usize) -> Vec<u32> {
+fn sample<T: Copy>(list: &[T], most: usize) -> Vec<T> {
     if list.len() <= most {
         return list.to_vec();
     }
@@ -94,6 +94,8 @@ pub struct Seen {
     asked: BTreeMap<(&'static str, &'static str, u8), u64>,
     /// The answers that entries at one position decide, as `shared` gives them.
     shared: [u64; 3],
+    /// The answers about times outside 32 bits, as `outside` gives them.
+    outside: [u64; 5],
 }
 
 impl Seen {
@@ -132,12 +134,21 @@ impl Seen {
         self.shared
     }
 
+    /// How many times outside 32 bits were met: changes read with a time below 0, and with one past 32 bits;
+    /// values asked for below 0 and past 32 bits in files with 64-bit times, and outside in the others.
+    pub fn outside(&self) -> [u64; 5] {
+        self.outside
+    }
+
     pub fn report(&self, what: &str) {
         let total: u64 = self.asked.values().sum();
         let [after, before, between] = self.shared;
         println!("{what}: {total} questions {:?}", self.asked);
         println!("  by the last of several entries {after}, by entry 0 of several {before}");
-        println!("  between their times {between}");
+        println!(
+            "  between their times {between}, outside 32 bits {:?}",
+            self.outside
+        );
     }
 }
 
@@ -146,6 +157,7 @@ struct Asked<'a> {
     file: &'a [u8],
     judged: Result<Judged<'a>, u8>,
     entries: Entries,
+    long_times: bool,
     what: &'a str,
     seen: &'a mut Seen,
 }
@@ -154,10 +166,12 @@ impl<'a> Asked<'a> {
     fn new(file: &'a [u8], what: &'a str, seen: &'a mut Seen) -> Self {
         let judged = Judged::new(file);
         let entries = judged.as_ref().map(Entries::of).unwrap_or_default();
+        let long_times = judged.as_ref().is_ok_and(Judged::has_long_times);
         Asked {
             file,
             judged,
             entries,
+            long_times,
             what,
             seen,
         }
@@ -173,7 +187,7 @@ impl<'a> Asked<'a> {
     /// Compares two answers with all bytes lent for them.
     fn same<T: PartialEq + Debug>(
         &mut self,
-        question: (&'static str, &[u32]),
+        question: (&'static str, &[i64]),
         sort: fn(&T) -> &'static str,
         proved: (Result<T, Refusal>, &[u8]),
         expected: (Result<T, u8>, &[u8]),
@@ -200,7 +214,7 @@ impl<'a> Asked<'a> {
         let proved = lxt::root(self.file, facility);
         let expected = self.expect(|judged| judged.root(facility));
         self.same(
-            ("root", &[facility]),
+            ("root", &[facility.into()]),
             |_| "number",
             (proved, &[]),
             (expected, &[]),
@@ -219,7 +233,7 @@ impl<'a> Asked<'a> {
             Ok(judged.name_of(facility).to_vec())
         });
         self.same(
-            ("name", &[facility, room as u32]),
+            ("name", &[facility.into(), room as i64]),
             |_| "name",
             (proved, &ours),
             (expected, &theirs),
@@ -230,19 +244,26 @@ impl<'a> Asked<'a> {
         let proved = lxt::change_before(self.file, facility, offset);
         let expected = self.expect(|judged| judged.change_before(facility, offset));
         self.same(
-            ("change_before", &[facility, offset]),
+            ("change_before", &[facility.into(), offset.into()]),
             |_| "number",
             (proved, &[]),
             (expected, &[]),
         );
     }
 
-    fn value_at(&mut self, facility: u32, time: u32, room: usize) {
+    fn value_at(&mut self, facility: u32, time: i64, room: usize) {
         let (mut ours, mut theirs) = (marked(room), marked(room));
         let proved = lxt::value_at(self.file, facility, time, lent(&mut ours)).map(plain);
         let expected = self.expect(|judged| judged.value_at(facility, time, lent(&mut theirs)));
+        let places = match self.long_times {
+            true => [2, 3],
+            false => [4, 4],
+        };
+        if let (Ok(_), Some(side)) = (expected, outside(time)) {
+            self.seen.outside[places[side]] += 1;
+        }
         self.same(
-            ("value_at", &[facility, time, room as u32]),
+            ("value_at", &[facility.into(), time, room as i64]),
             sort_of,
             (proved, &ours),
             (expected, &theirs),
@@ -264,7 +285,7 @@ impl<'a> Asked<'a> {
         });
         let expected = self.expect(|judged| judged.facts(facility));
         self.same(
-            ("facts", &[facility]),
+            ("facts", &[facility.into()]),
             |facts| match facts.kind {
                 lxt_reference::Kind::Bits => "bits",
                 lxt_reference::Kind::Integer => "integer",
@@ -288,8 +309,11 @@ impl<'a> Asked<'a> {
         if let (Ok(_), Some(shared)) = (expected, self.entries.shared(offset)) {
             self.seen.shared[usize::from(shared.before_all)] += 1;
         }
+        if let Some(side) = expected.ok().and_then(|read| outside(read.time)) {
+            self.seen.outside[side] += 1;
+        }
         self.same(
-            ("change", &[facility, offset, room as u32]),
+            ("change", &[facility.into(), offset.into(), room as i64]),
             sort_of_change,
             (proved, &ours),
             (expected, &theirs),
@@ -297,7 +321,7 @@ impl<'a> Asked<'a> {
     }
 
     /// Every question about a facility, at these offsets, times and rooms.
-    fn facility(&mut self, facility: u32, offsets: &[u32], times: &[u32], rooms: &[usize]) {
+    fn facility(&mut self, facility: u32, offsets: &[u32], times: &[i64], rooms: &[usize]) {
         self.root(facility);
         self.facts(facility);
         for room in NAME_ROOMS {
@@ -317,11 +341,32 @@ impl<'a> Asked<'a> {
     }
 }
 
-/// One less, the number itself and one more, for each, and the ends of the range.
-fn around(numbers: &[u32]) -> BTreeSet<u32> {
+/// Where a time leaves 32 bits: 0 below, 1 above.
+fn outside(time: i64) -> Option<usize> {
+    match time {
+        ..0 => Some(0),
+        0..=0xFFFF_FFFF => None,
+        _ => Some(1),
+    }
+}
+
+/// One less, the offset itself and one more, for each, and the ends of the range.
+fn around(offsets: &[u32]) -> BTreeSet<u32> {
     let mut all = BTreeSet::from([0, u32::MAX]);
-    for number in numbers {
-        all.extend([number.saturating_sub(1), *number, number.saturating_add(1)]);
+    for offset in offsets {
+        all.extend([offset.saturating_sub(1), *offset, offset.saturating_add(1)]);
+    }
+    all
+}
+
+/// The ends of the range of times, and the neighbours of those of 32 bits.
+const ENDS: [i64; 6] = [i64::MIN, -1, 0, 0xFFFF_FFFF, 0x1_0000_0000, i64::MAX];
+
+/// One less, the time itself and one more, for each, and the ends of the ranges.
+fn around_times(times: &[i64]) -> BTreeSet<i64> {
+    let mut all = BTreeSet::from(ENDS);
+    for time in times {
+        all.extend([time.saturating_sub(1), *time, time.saturating_add(1)]);
     }
     all
 }
@@ -331,7 +376,12 @@ pub fn compare(file: &[u8], what: &str, most: Most, seen: &mut Seen) {
     let mut asked = Asked::new(file, what, seen);
     let Ok(judged) = &asked.judged else {
         for facility in [0, 1, u32::MAX] {
-            asked.facility(facility, &[0, 10, u32::MAX], &[0, u32::MAX], &[0, 40]);
+            asked.facility(
+                facility,
+                &[0, 10, u32::MAX],
+                &[i64::MIN, 0, i64::MAX],
+                &[0, 40],
+            );
         }
         return;
     };
@@ -347,21 +397,24 @@ pub fn compare(file: &[u8], what: &str, most: Most, seen: &mut Seen) {
         let mut room = vec![0; facts.width as usize];
         let read = |offset: &u32| judged.change(facility, *offset, &mut room);
         let times = own.iter().map(read).map(|it| it.expect("a change").time);
-        let of_changes = around(&Vec::from_iter(times));
+        let of_changes = around_times(&Vec::from_iter(times));
         // Of entries at one position also the times that do not decide, and others between them.
         let (mut others, mut between) = (Vec::new(), Vec::new());
         for shared in own.iter().filter_map(|it| asked.entries.shared(*it)) {
             let some = sample(&shared.times(), 4);
-            let middle = |pair: &[u32]| pair[0] + (pair[1] - pair[0]) / 2;
+            let middle = |pair: &[i64]| pair[0].midpoint(pair[1]);
             others.extend(some.windows(2).map(middle));
             others.extend(some);
             between.push(shared.between());
         }
-        let mut times = around(&others);
+        let mut times = around_times(&others);
         times.retain(|time| !of_changes.contains(time));
-        let shows = |time: &&u32| between.iter().any(|it| it.contains(time));
+        let shows = |time: &&i64| between.iter().any(|it| it.contains(time));
         let shown = times.iter().filter(shows).count() as u64;
         times.extend(of_changes);
+        // And of the table all times, or some with the first and the last.
+        let of_table = sample(&asked.entries.times(), most.changes.max(6));
+        times.extend(around_times(&of_table));
 
         let mut offsets = around(&own);
         offsets.extend(around(&[summary.changes, summary.end]));
@@ -375,9 +428,8 @@ pub fn compare(file: &[u8], what: &str, most: Most, seen: &mut Seen) {
         plans.push((facility, offsets, times, rooms, shown));
     }
     for facility in [summary.facilities, u32::MAX] {
-        let numbers = around(&[summary.changes]);
         let rooms = BTreeSet::from([0, 40]);
-        plans.push((facility, numbers.clone(), numbers, rooms, 0));
+        plans.push((facility, around(&[summary.changes]), ENDS.into(), rooms, 0));
     }
     for (facility, offsets, times, rooms, shown) in plans {
         let offsets = Vec::from_iter(offsets);

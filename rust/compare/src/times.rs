@@ -1,4 +1,5 @@
-//! Time entries that share a position or a time: what a file has of them, and where they show.
+//! The time entries of a file: what it has of both kinds of tables, and entries that share a position or a
+//! time, and where they show.
 
 use std::ops::Range;
 
@@ -19,14 +20,29 @@ pub fn small_trace(first: u32, positions: &[u32], times: &[u32]) -> Vec<u8> {
     file
 }
 
+/// The same with 64-bit times, of tag 09: first, last, the position deltas and the time deltas.
+pub fn small_trace_09(first: i64, last: i64, positions: &[u32], times: &[i64]) -> Vec<u8> {
+    let (table, end) = (0x28, 0x44);
+    let mut file = TRACE[..table].to_vec();
+    file.extend((positions.len() as u32).to_be_bytes());
+    file.extend([first, last].map(i64::to_be_bytes).concat());
+    file.extend(positions.iter().flat_map(|delta| delta.to_be_bytes()));
+    file.extend(times.iter().flat_map(|delta| delta.to_be_bytes()));
+    file.extend(&TRACE[end..]);
+    // The tag of the times stands before B4.
+    let tag = file.len() - 2;
+    file[tag] = 0x09;
+    file
+}
+
 /// The position and time of each entry of an accepted file, in the order of the table.
 #[derive(Default)]
-pub struct Entries(Vec<(u32, u32)>);
+pub struct Entries(Vec<(u32, i64)>);
 
 /// Entries of differing times at the position that decides for a change, so that it shows which of them
 /// does.
 pub struct Shared<'a> {
-    entries: &'a [(u32, u32)],
+    entries: &'a [(u32, i64)],
     /// Whether the change lies before every position: entry 0 decides, and not the last of them.
     pub before_all: bool,
 }
@@ -34,6 +50,11 @@ pub struct Shared<'a> {
 impl Entries {
     pub fn of(judged: &Judged) -> Self {
         Entries(judged.entries())
+    }
+
+    /// Their times.
+    pub fn times(&self) -> Vec<i64> {
+        self.0.iter().map(|entry| entry.1).collect()
     }
 
     /// Whether several share a position.
@@ -63,14 +84,14 @@ impl Entries {
 
 impl Shared<'_> {
     /// The times of the entries, each once.
-    pub fn times(&self) -> Vec<u32> {
+    pub fn times(&self) -> Vec<i64> {
         let mut times = Vec::from_iter(self.entries.iter().map(|entry| entry.1));
         times.dedup();
         times
     }
 
     /// The times at which the change is there by one of the entries and not yet by another.
-    pub fn between(&self) -> Range<u32> {
+    pub fn between(&self) -> Range<i64> {
         self.entries[0].1..self.entries[self.entries.len() - 1].1
     }
 }

@@ -5,7 +5,11 @@
 
 use crate::draft::{change_bytes, least_k, Change, Draft, Kind};
 use crate::random::Random;
-use crate::valid::{pack, rubbish, NEEDED, REAL_TEST};
+use crate::times::{
+    head_length, other_times, table_length, time_bytes, time_length, time_range, TimeTable,
+    LONG_TIMES, SHORT_TIMES,
+};
+use crate::valid::{pack, rubbish, REAL_TEST};
 
 /// The two sides of a boundary.
 #[derive(Clone, Debug)]
@@ -45,15 +49,24 @@ pub const DAMAGES: &[Damage] = &[
     damage(3, "last byte", last_byte),
     damage(4, "no END from offset 4 on", no_end),
     damage(5, "compressed data", compressed),
-    damage(6, "64-bit times", long_times),
+    damage(6, "times of both kinds", both_times),
+    damage(6, "sound times of both kinds", both_sound_times),
+    damage(
+        6,
+        "times of both kinds, another absent",
+        both_times_one_absent,
+    ),
     damage(7, "needed tag absent by 0", absent_by_zero),
     damage(7, "needed tag not met", not_met),
+    damage(7, "times of neither kind", no_times),
     damage(8, "start below 4", start_below_4),
     damage(8, "body passes T", body_passes_end),
     damage(8, "head of the names passes T", head_passes_end),
     damage(8, "start past T", start_past_end),
     damage(8, "C below 4", c_below_4),
     damage(8, "C above T", c_above_end),
+    damage(8, "head of the times passes T", times_head_passes_end),
+    damage(8, "start of 64-bit times", long_times_start),
     damage(8, "count of times too high", times_pass_end),
     damage(8, "count of names too high", count_passes_end),
     damage(9, "4,097 facilities", too_many),
@@ -75,7 +88,11 @@ pub const DAMAGES: &[Damage] = &[
     damage(13, "equal times before first or after last", equal_times),
     damage(13, "time of an entry that never decides", undeciding_time),
     damage(13, "position sum past 2^32", position_sum),
-    damage(13, "time sum past 2^32", time_sum),
+    damage(13, "time sum out of range", time_sum),
+    damage(13, "time delta below 0", negative_delta),
+    damage(13, "time below 0 and first 0", first_of_other_sign),
+    damage(13, "time in bounds by its low half", low_half),
+    damage(13, "first above last", first_above_last),
     damage(13, "no entry for a change", no_entry),
     damage(14, "08 absent", real_test_absent),
     damage(14, "08 out of bounds", real_test_out_of_bounds),
@@ -209,12 +226,57 @@ fn compressed(draft: &Draft, random: &mut Random) -> Option<Neighbours> {
     taken_back(draft, random, tag)
 }
 
-fn long_times(draft: &Draft, random: &mut Random) -> Option<Neighbours> {
-    taken_back(draft, random, 0x09)
+/// 06 and 09 with any values beside the one that counts.
+fn both_times(draft: &Draft, random: &mut Random) -> Option<Neighbours> {
+    taken_back(draft, random, other_times(draft.times_tag()))
+}
+
+/// Sound tables of both kinds. Where one is taken back, the file is read by the other.
+fn both_sound_times(draft: &Draft, random: &mut Random) -> Option<Neighbours> {
+    let own = draft.times_tag();
+    let mut over = draft.clone();
+    let times = [random.within_signed(0, 9), random.within_signed(0, 9)];
+    let table = table(other_times(own), 0, 18, &[4, 1], &times);
+    let start = over.append(&table.bytes());
+    over.set_item(table.tag, start as u32);
+    let mut near = over.clone();
+    let taken_back = random.pick(&[own, table.tag]);
+    match random.chance(1, 2) {
+        true => near.add_nearest_end(taken_back, 0),
+        false => near.set_item(taken_back, 0),
+    }
+    accepted(near, over)
+}
+
+/// 6 is tested before 7.
+fn both_times_one_absent(draft: &Draft, random: &mut Random) -> Option<Neighbours> {
+    let mut near = draft.clone();
+    near.set_item(random.pick(&[0x01, 0x02, 0x03, 0x04]), 0);
+    let mut over = near.clone();
+    over.set_item(other_times(draft.times_tag()), not_0(random));
+    Some(Neighbours {
+        near,
+        near_answer: Err(7),
+        over,
+    })
+}
+
+/// Each of 06 and 09 absent: by 0, or by 0 nearer END than a value, of either.
+fn no_times(draft: &Draft, random: &mut Random) -> Option<Neighbours> {
+    let own = draft.times_tag();
+    let mut near = draft.clone();
+    near.add_nearest_end(other_times(own), 0);
+    near.add_nearest_b4(other_times(own), not_0(random));
+    let mut over = near.clone();
+    match random.chance(1, 2) {
+        true => over.add_nearest_end(own, 0),
+        false => over.set_item(own, 0),
+    }
+    accepted(near, over)
 }
 
 fn absent_by_zero(draft: &Draft, random: &mut Random) -> Option<Neighbours> {
-    let tag = random.pick(&NEEDED);
+    let tag = random.pick(&draft.needed());
     let mut near = draft.clone();
     near.add_nearest_b4(tag, 0);
     let mut over = draft.clone();
@@ -227,7 +289,7 @@ fn absent_by_zero(draft: &Draft, random: &mut Random) -> Option<Neighbours> {
 }
 
 fn not_met(draft: &Draft, random: &mut Random) -> Option<Neighbours> {
-    let tag = random.pick(&NEEDED);
+    let tag = random.pick(&draft.needed());
     let mut over = draft.clone();
     for item in &mut over.items {
         if item.0 == tag {
@@ -237,8 +299,13 @@ fn not_met(draft: &Draft, random: &mut Random) -> Option<Neighbours> {
     accepted(draft.clone(), over)
 }
 
+/// A tag whose bounds are tested.
+fn bounded_tag(draft: &Draft, random: &mut Random) -> u8 {
+    random.pick(&[0x02, 0x03, 0x04, 0x05, 0x07, draft.times_tag()])
+}
+
 fn start_below_4(draft: &Draft, random: &mut Random) -> Option<Neighbours> {
-    let tag = random.within(0x02, 0x07) as u8;
+    let tag = bounded_tag(draft, random);
     let mut near = draft.clone();
     // The one-byte sections and the empty ones may start at 4 in any file.
     let empty = draft.facilities.is_empty() && matches!(tag, 0x02 | 0x04);
@@ -251,7 +318,7 @@ fn start_below_4(draft: &Draft, random: &mut Random) -> Option<Neighbours> {
 }
 
 fn body_passes_end(draft: &Draft, random: &mut Random) -> Option<Neighbours> {
-    let tag = random.pick(&[0x02, 0x04, 0x05, 0x06, 0x07]);
+    let tag = random.pick(&[0x02, 0x04, 0x05, 0x07, draft.times_tag()]);
     if draft.value(tag) == 0 {
         return None;
     }
@@ -278,7 +345,7 @@ fn head_passes_end(draft: &Draft, random: &mut Random) -> Option<Neighbours> {
 }
 
 fn start_past_end(draft: &Draft, random: &mut Random) -> Option<Neighbours> {
-    let tag = random.within(0x02, 0x07) as u8;
+    let tag = bounded_tag(draft, random);
     let end = draft.end() as u32;
     let mut near = draft.clone();
     if draft.facilities.is_empty() && matches!(tag, 0x02 | 0x04) {
@@ -318,14 +385,58 @@ fn c_above_end(draft: &Draft, random: &mut Random) -> Option<Neighbours> {
     })
 }
 
-fn times_pass_end(draft: &Draft, random: &mut Random) -> Option<Neighbours> {
-    let mut near = draft.clone();
-    near.move_to_end(0x06);
+/// A table without entries whose head ends at T, and the same cut in its head.
+fn times_head_passes_end(draft: &Draft, random: &mut Random) -> Option<Neighbours> {
+    let tag = draft.times_tag();
+    let (least, greatest) = time_range(tag);
+    let (first, last) = random.pick(&[(0, 0), (0, 9), (9, 0), (greatest, least)]);
+    let near = with_times(draft, first, last, &[], &[]);
     let mut over = near.clone();
-    // 12 + 8m would wrap to 12 + 8 * entries.
-    let wrapping = draft.entries() | 0x2000_0000;
-    let m = random.pick(&[draft.entries().saturating_add(1), wrapping, 0xFFFF_FFFF]);
-    over.set_word(over.start(0x06), m);
+    let head = head_length(tag);
+    let kept = random.pick(&[0, 3, 4, 11, head - 1, head - 1, head - 1]);
+    over.body.truncate(near.times_at() + kept);
+    // Changes need an entry.
+    let near_answer = match draft.changes.is_empty() {
+        true => Ok(()),
+        false => Err(13),
+    };
+    Some(Neighbours {
+        near,
+        near_answer,
+        over,
+    })
+}
+
+/// A table of 09 that ends at T starts there, or where no table can.
+fn long_times_start(draft: &Draft, random: &mut Random) -> Option<Neighbours> {
+    let times = [
+        random.within_signed(i64::MIN, 0),
+        random.within_signed(0, i64::MAX),
+    ];
+    let near = with_long_times(draft, i64::MIN, i64::MAX, &[4, 1], &times);
+    let (start, end) = (near.value(LONG_TIMES), near.end() as u32);
+    // At T - 20 a head fits, whose count is the last position delta, 1.
+    let past = [start + 1, end - 20, end - 19, end, end + 1];
+    let wrong = [1, 2, 3, 3, 0xFFFF_FFFF, 0xFFFF_FFD4, random.pick(&past)];
+    let mut over = near.clone();
+    over.set_item(LONG_TIMES, random.pick(&wrong));
+    accepted(near, over)
+}
+
+fn times_pass_end(draft: &Draft, random: &mut Random) -> Option<Neighbours> {
+    let tag = draft.times_tag();
+    let mut near = draft.clone();
+    near.move_to_end(tag);
+    let mut over = near.clone();
+    // The length would wrap to that of the entries there are, or to one of less than two entries.
+    let entries = draft.entries();
+    let wrapping = match tag {
+        SHORT_TIMES => [entries | 0x2000_0000, 0x2000_0000],
+        _ => [entries | 0x4000_0000, 357_913_942],
+    };
+    let [one, other] = wrapping;
+    let m = random.pick(&[entries.saturating_add(1), one, other, 0xFFFF_FFFF]);
+    over.set_word(over.start(tag), m);
     accepted(near, over)
 }
 
@@ -587,15 +698,59 @@ fn alias_cycle(draft: &Draft, random: &mut Random) -> Option<Neighbours> {
 
 // ---- 13: times ----
 
-/// The draft with a new table of times at the end.
-fn with_times(draft: &Draft, first: u32, last: u32, positions: &[u32], times: &[u32]) -> Draft {
+fn table(tag: u8, first: i64, last: i64, positions: &[u32], times: &[i64]) -> TimeTable {
+    TimeTable {
+        tag,
+        first,
+        last,
+        positions: positions.to_vec(),
+        times: times.to_vec(),
+    }
+}
+
+/// The draft with a new table of times at the end, of the kind that it has.
+fn with_times(draft: &Draft, first: i64, last: i64, positions: &[u32], times: &[i64]) -> Draft {
     let mut new = draft.clone();
-    let mut words = vec![positions.len() as u32, first, last];
-    words.extend(positions);
-    words.extend(times);
-    let start = new.append_words(&words);
-    new.set_item(0x06, start as u32);
+    new.append_times(&table(draft.times_tag(), first, last, positions, times));
     new
+}
+
+/// The same with 64-bit times.
+fn with_long_times(
+    draft: &Draft,
+    first: i64,
+    last: i64,
+    positions: &[u32],
+    times: &[i64],
+) -> Draft {
+    let mut new = draft.clone();
+    new.append_times(&table(LONG_TIMES, first, last, positions, times));
+    new
+}
+
+/// The bytes of a new table of so many entries, of the kind that the draft has.
+fn new_length(draft: &Draft, entries: usize) -> usize {
+    table_length(draft.times_tag(), entries)
+}
+
+/// A time that has neighbours on both sides, for the kind of times that the draft has.
+fn middle_time(draft: &Draft, random: &mut Random) -> i64 {
+    match draft.times_tag() {
+        SHORT_TIMES => random.pick(&[1, 100, 0x7FFF_FFFF, 0xFFFF_FFF0]),
+        _ => random.pick(&[
+            i64::MIN + 1,
+            i64::MIN + 100,
+            -0x1_0000_0000,
+            -0x8000_0000,
+            -2,
+            -1,
+            0,
+            1,
+            0x7FFF_FFFF,
+            0xFFFF_FFFF,
+            i64::MAX - 15,
+        ]),
+    }
 }
 
 fn first_position(draft: &Draft, random: &mut Random) -> Option<Neighbours> {
@@ -607,8 +762,9 @@ fn first_position(draft: &Draft, random: &mut Random) -> Option<Neighbours> {
 }
 
 /// So many deltas, each 0 or 1 but the first.
-fn small_deltas(random: &mut Random, first: u32, count: usize) -> Vec<u32> {
-    let mut deltas: Vec<u32> = (0..count).map(|_| random.pick(&[0, 1])).collect();
+fn small_deltas<T: Copy + From<u8>>(random: &mut Random, first: T, count: usize) -> Vec<T> {
+    let small = (0..count).map(|_| T::from(random.pick(&[0, 1])));
+    let mut deltas: Vec<T> = small.collect();
     deltas[0] = first;
     deltas
 }
@@ -632,7 +788,7 @@ fn last_position(draft: &Draft, random: &mut Random) -> Option<Neighbours> {
     let m = before + 1 + behind;
     let times = small_deltas(random, 3, m);
     // T lies behind the new table.
-    let end = (draft.end() + 12 + 8 * m) as u32;
+    let end = (draft.end() + new_length(draft, m)) as u32;
     let make = |position: u32, step: u32| {
         let mut positions = vec![4; before];
         positions.push(position - 4 * before as u32);
@@ -648,7 +804,7 @@ fn last_position(draft: &Draft, random: &mut Random) -> Option<Neighbours> {
 }
 
 fn time_bounds(draft: &Draft, random: &mut Random) -> Option<Neighbours> {
-    let low = random.pick(&[1, 100, 0x7FFF_FFFF]);
+    let low = middle_time(draft, random);
     let near = with_times(draft, low, low + 1, &[4, 1], &[low, 1]);
     let over = match random.below(3) {
         0 => with_times(draft, low + 1, low + 1, &[4, 1], &[low, 1]),
@@ -661,7 +817,7 @@ fn time_bounds(draft: &Draft, random: &mut Random) -> Option<Neighbours> {
 /// All times are equal, by deltas of 0: first and last are that time, or not.
 fn equal_times(draft: &Draft, random: &mut Random) -> Option<Neighbours> {
     let m = random.within(2, 6) as usize;
-    let low = random.pick(&[1, 100, 0x7FFF_FFFF, 0xFFFF_FFFE]);
+    let low = middle_time(draft, random);
     let positions = small_deltas(random, 4, m);
     let mut times = vec![0; m];
     times[0] = low;
@@ -681,22 +837,22 @@ fn equal_times(draft: &Draft, random: &mut Random) -> Option<Neighbours> {
 /// 4 with later ones, and above last one that lies behind all changes.
 fn undeciding_time(draft: &Draft, random: &mut Random) -> Option<Neighbours> {
     let m = random.within(2, 6) as usize;
-    let low = random.pick(&[1, 100, 0x7FFF_FFFF]);
+    let low = middle_time(draft, random);
     let mut positions = vec![0; m];
     positions[0] = 4;
     let mut times = small_deltas(random, low, m);
     times[m - 1] = 1;
-    let top: u32 = times.iter().sum();
+    let top: i64 = times.iter().sum();
     if random.chance(1, 2) {
-        let first = random.within(u64::from(low) + 1, top.into()) as u32;
+        let first = random.within_signed(low + 1, top);
         return accepted(
             with_times(draft, low, top, &positions, &times),
             with_times(draft, first, top, &positions, &times),
         );
     }
     // A change has two bytes or more, so none starts at T - 1, where all but the first entry lie.
-    positions[1] = (draft.end() + 12 + 8 * m) as u32 - 5;
-    let last = random.within(low.into(), u64::from(top) - 1) as u32;
+    positions[1] = (draft.end() + new_length(draft, m)) as u32 - 5;
+    let last = random.within_signed(low, top - 1);
     accepted(
         with_times(draft, low, top, &positions, &times),
         with_times(draft, low, last, &positions, &times),
@@ -704,10 +860,10 @@ fn undeciding_time(draft: &Draft, random: &mut Random) -> Option<Neighbours> {
 }
 
 /// Two deltas, with up to two zeros behind each.
-fn with_zeros(random: &mut Random) -> impl Fn(u32, u32) -> Vec<u32> {
+fn with_zeros<T: Copy + From<u8>>(random: &mut Random) -> impl Fn(T, T) -> Vec<T> {
     let (between, behind) = (random.below(3), random.below(3));
     move |first, second| {
-        let (between, behind) = (vec![0; between], vec![0; behind]);
+        let (between, behind) = (vec![T::from(0); between], vec![T::from(0); behind]);
         [&[first][..], &between, &[second], &behind].concat()
     }
 }
@@ -722,21 +878,100 @@ fn position_sum(draft: &Draft, random: &mut Random) -> Option<Neighbours> {
     )
 }
 
+/// The sum reaches the greatest time of the range, or passes it by one; first and last are the whole
+/// range, so that a wrapped sum would keep every rule.
 fn time_sum(draft: &Draft, random: &mut Random) -> Option<Neighbours> {
-    let last = 0xFFFF_FFFF;
-    let step = random.pick(&[1, 0x8000_0000, 0xFFFF_FFFE]);
+    let (first, last) = time_range(draft.times_tag());
+    let step = match draft.times_tag() {
+        SHORT_TIMES => random.pick(&[1, 0x8000_0000, 0xFFFF_FFFE]),
+        _ => random.pick(&[1, 0x1_0000_0000, i64::MAX / 2, i64::MAX - 1, i64::MAX]),
+    };
     let times = with_zeros(random);
     let positions = small_deltas(random, 4, times(0, 0).len());
     accepted(
-        with_times(draft, 0, last, &positions, &times(last - step, step)),
-        with_times(draft, 0, last, &positions, &times(last - step + 1, step)),
+        with_times(draft, first, last, &positions, &times(last - step, step)),
+        with_times(
+            draft,
+            first,
+            last,
+            &positions,
+            &times(last - step + 1, step),
+        ),
     )
+}
+
+/// A delta after the first is 0 or more, or below 0, though all times keep first and last.
+fn negative_delta(draft: &Draft, random: &mut Random) -> Option<Neighbours> {
+    let low = random.pick(&[i64::MIN, -0x1_0000_0000, -10, -1, 0, 10]);
+    let times = with_zeros(random);
+    let positions = small_deltas(random, 4, times(0, 0).len());
+    let make = |delta| {
+        let times = times(low, delta);
+        with_long_times(draft, i64::MIN, i64::MAX, &positions, &times)
+    };
+    let below = [-1, -1, -10, -0x8000_0000, i64::MIN + 1, i64::MIN];
+    let not_below = [0, 0, 1, 0x8000_0000, i64::MAX - 10];
+    accepted(make(random.pick(&not_below)), make(random.pick(&below)))
+}
+
+/// A time below 0 lies below a first of 0 and above a last of less, though not as a number without sign.
+fn first_of_other_sign(draft: &Draft, random: &mut Random) -> Option<Neighbours> {
+    let time = random.pick(&[-1, -2, -0x1_0000_0000, i64::MIN + 1]);
+    let positions = small_deltas(random, 4, 2);
+    let make = |first, last| with_long_times(draft, first, last, &positions, &[time, 0]);
+    let over = match random.below(3) {
+        0 => make(0, -1),
+        1 => make(0, i64::MAX),
+        _ => make(i64::MIN, time - 1),
+    };
+    let last = random.pick(&[time, -1, 0, i64::MAX]).max(time);
+    accepted(make(random.pick(&[i64::MIN, time]), last), over)
+}
+
+/// Bounds that differ from a time in the higher four bytes.
+fn low_half(draft: &Draft, random: &mut Random) -> Option<Neighbours> {
+    let time = random.pick(&[7, 0x7FFF_FFFF, 0xFFFF_FFFF]);
+    let high = random.pick(&[1, -1, 0x7FFF_FFFF, -0x8000_0000]) << 32;
+    let make = |first, last, time| with_long_times(draft, first, last, &[4], &[time]);
+    accepted(
+        make(high + time, high + time, high + time),
+        match random.chance(1, 2) {
+            true => make(time, time, high + time),
+            false => make(high + time, high + time, time),
+        },
+    )
+}
+
+/// First above last is no rule by itself; it is broken with the first entry.
+fn first_above_last(draft: &Draft, random: &mut Random) -> Option<Neighbours> {
+    let middle = middle_time(draft, random);
+    let (least, greatest) = time_range(draft.times_tag());
+    let bounds = [
+        (middle + 1, middle - 1),
+        (middle, middle - 1),
+        (greatest, least),
+    ];
+    let (first, last) = random.pick(&bounds);
+    let time = random.pick(&[first, last, middle]);
+    let near = with_times(draft, first, last, &[], &[]);
+    let over = with_times(draft, first, last, &[4], &[time]);
+    let near_answer = match draft.changes.is_empty() {
+        true => Ok(()),
+        false => Err(13),
+    };
+    Some(Neighbours {
+        near,
+        near_answer,
+        over,
+    })
 }
 
 /// No entry: fine without changes, 13 for any sync entry of a root, wherever it points.
 fn no_entry(draft: &Draft, random: &mut Random) -> Option<Neighbours> {
     let root = any_root(draft, random)?;
-    let mut near = with_times(draft, random.word(), random.word(), &[], &[]);
+    let (least, greatest) = time_range(draft.times_tag());
+    let any = [(); 2].map(|()| random.within_signed(least, greatest));
+    let mut near = with_times(draft, any[0], any[1], &[], &[]);
     for other in draft.roots() {
         near.set_word(near.sync_at(other), 0);
     }
@@ -1256,6 +1491,39 @@ fn telling_word(draft: &Draft, random: &mut Random) -> u32 {
     ])
 }
 
+/// A number of the times: a telling word, or a telling time in the place of one.
+fn edit_times(draft: &mut Draft, random: &mut Random, word: u32) {
+    let tag = draft.times_tag();
+    let m = draft.entries().min(1_000) as usize;
+    let at = draft.times_at();
+    if random.chance(1, 2) {
+        let words = table_length(tag, m) / 4;
+        draft.set_word(at + 4 * random.below(words), word);
+        return;
+    }
+    // First, last, or a delta behind the positions.
+    let place = match random.below(m + 2) {
+        bound @ 0..=1 => at + 4 + time_length(tag) * bound,
+        entry => at + head_length(tag) + 4 * m + time_length(tag) * (entry - 2),
+    };
+    let old = draft.time(place);
+    let time = random.pick(&[
+        0,
+        1,
+        -1,
+        old.wrapping_add(1),
+        old.wrapping_sub(1),
+        old.wrapping_neg(),
+        old ^ i64::MIN,
+        old ^ 1 << 32,
+        1 << 32,
+        i64::MIN,
+        i64::MAX,
+        random.clone().any() as i64,
+    ]);
+    draft.set(place, &time_bytes(tag, time));
+}
+
 fn edit(draft: &mut Draft, random: &mut Random) {
     let word = telling_word(draft, random);
     match random.below(12) {
@@ -1291,10 +1559,7 @@ fn edit(draft: &mut Draft, random: &mut Random) {
             let facility = random.below(draft.facilities.len());
             draft.set_word(draft.sync_at(facility), word);
         }
-        8 => {
-            let words = 3 + 2 * draft.entries().min(1_000) as usize;
-            draft.set_word(draft.start(0x06) + 4 * random.below(words), word);
-        }
+        8 => edit_times(draft, random, word),
         9 if !draft.facilities.is_empty() => {
             let at = draft.facilities[random.below(draft.facilities.len())].name_at;
             draft.set(at + random.below(4), &[random.pick(&[0, 1, 2, 5, 255])]);

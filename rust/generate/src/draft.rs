@@ -1,5 +1,7 @@
 //! A trace file in parts that can still be edited, with what it means.
 
+use crate::times::{other_times, table_length, time_length, TimeTable, LONG_TIMES, SHORT_TIMES};
+
 /// The kind of a facility.
 #[derive(Clone, Copy, Debug, PartialEq, Eq)]
 pub enum Kind {
@@ -46,7 +48,7 @@ pub struct Change {
     pub data: usize,
     pub end: usize,
     pub previous: usize,
-    pub time: u32,
+    pub time: i64,
     pub value: Meant,
     /// Whether its unused bits are all 0.
     pub clean: bool,
@@ -187,9 +189,47 @@ impl Draft {
         self.word(self.start(0x03))
     }
 
+    /// The tag of the times that count: 06 or 09.
+    pub fn times_tag(&self) -> u8 {
+        match (self.value(SHORT_TIMES), self.value(LONG_TIMES)) {
+            (0, 1..) => LONG_TIMES,
+            _ => SHORT_TIMES,
+        }
+    }
+
+    /// Where the times that count start.
+    pub fn times_at(&self) -> usize {
+        self.start(self.times_tag())
+    }
+
     /// m, as the head of the times says.
     pub fn entries(&self) -> u32 {
-        self.word(self.start(0x06))
+        self.word(self.times_at())
+    }
+
+    /// The time, or delta of one, at `at` in the times that count, with 0 for bytes past the end.
+    pub fn time(&self, at: usize) -> i64 {
+        let low = i64::from(self.word(at + time_length(self.times_tag()) - 4));
+        match self.times_tag() {
+            SHORT_TIMES => low,
+            _ => i64::from(self.word(at)) << 32 | low,
+        }
+    }
+
+    /// Puts a table of times before END, which counts; one of the other kind is then absent. Gives its
+    /// start.
+    pub fn append_times(&mut self, table: &TimeTable) -> usize {
+        let start = self.append(&table.bytes());
+        self.set_item(table.tag, start as u32);
+        if self.value(other_times(table.tag)) != 0 {
+            self.set_item(other_times(table.tag), 0);
+        }
+        start
+    }
+
+    /// The tags that must be there in this draft.
+    pub fn needed(&self) -> [u8; 5] {
+        [0x01, 0x02, 0x03, 0x04, self.times_tag()]
     }
 
     /// The length of the body of a section. Of 03 that is all names.
@@ -208,7 +248,7 @@ impl Draft {
                 }
             },
             0x04 => 16 * self.facilities.len(),
-            0x06 => 12 + 8 * self.entries() as usize,
+            SHORT_TIMES | LONG_TIMES => table_length(tag, self.word(self.start(tag)) as usize),
             0x08 => 8,
             _ => 1,
         }

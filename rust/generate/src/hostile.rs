@@ -1,7 +1,10 @@
 //! Files made to be slow or to wrap, and files at the limits.
 
+mod long_times;
+
 use crate::draft::{change_bytes, Draft};
 use crate::tables::{alias, append_tables, bits, Geometry, INTEGER, REAL, TEXT};
+use crate::times::{TimeTable, SHORT_TIMES};
 use crate::valid::{pack, valid_of, Shape};
 use crate::{Case, Random};
 
@@ -163,40 +166,45 @@ fn root_on_each_change(total: usize, roots: usize) -> Vec<u8> {
     draft.bytes()
 }
 
+/// The deltas of an entry's position and time.
+type Deltas = (u32, i64);
+
 /// Gives a draft other times, behind all that it has.
-fn append_times(draft: &mut Draft, first: u32, last: u32, deltas: &[(u32, u32)]) {
-    let mut words = vec![deltas.len() as u32, first, last];
-    words.extend(deltas.iter().map(|(position, _)| *position));
-    words.extend(deltas.iter().map(|(_, time)| *time));
-    let start = draft.append_words(&words);
-    draft.set_item(0x06, start as u32);
+fn append_times(draft: &mut Draft, tag: u8, first: i64, last: i64, deltas: &[Deltas]) {
+    draft.append_times(&TimeTable {
+        tag,
+        first,
+        last,
+        positions: deltas.iter().map(|it| it.0).collect(),
+        times: deltas.iter().map(|it| it.1).collect(),
+    });
 }
 
-/// The draft of the tables with other times.
-fn with_times(geometry: &[Geometry], first: u32, last: u32, deltas: &[(u32, u32)]) -> Draft {
-    let mut draft = tables(geometry);
-    append_times(&mut draft, first, last, deltas);
+/// The draft of one bit and tables, with other times.
+fn with_times(tag: u8, first: i64, last: i64, deltas: &[Deltas]) -> Draft {
+    let mut draft = tables(&[bits(1)]);
+    append_times(&mut draft, tag, first, last, deltas);
     draft.set_item(0x01, 4);
     draft
 }
 
 /// A first entry and `more` that repeat a step.
-fn steps(first: (u32, u32), more: usize, step: (u32, u32)) -> Vec<(u32, u32)> {
+fn steps(first: Deltas, more: usize, step: Deltas) -> Vec<Deltas> {
     let mut deltas = vec![first];
     deltas.extend(vec![step; more]);
     deltas
 }
 
-/// Three changes of one root, and `count` time entries of rising times at one position: that of a change,
-/// or behind all of them.
-fn shared_position(count: usize, place: usize) -> Vec<u8> {
+/// Three changes of one root, and `count` time entries of rising times from `first` on at one position: that
+/// of a change, or behind all of them.
+fn shared_position(tag: u8, first: i64, count: usize, place: usize) -> Vec<u8> {
     let mut draft = tables(&[bits(1)]);
     let changes: Vec<usize> = (3..6)
         .map(|command| draft.append_change(0, command, 1, &[]))
         .collect();
     let position = changes.get(place).map_or(draft.end() - 1, |offset| *offset);
-    let deltas = steps((position as u32, 0), count - 1, (0, 1));
-    append_times(&mut draft, 0, count as u32, &deltas);
+    let deltas = steps((position as u32, first), count - 1, (0, 1));
+    append_times(&mut draft, tag, first, first + count as i64, &deltas);
     draft.bytes()
 }
 
@@ -408,7 +416,7 @@ pub fn hostile() -> Vec<Case> {
     ] {
         cases.push(case(
             origin,
-            with_times(&one, 0, last, &deltas).bytes(),
+            with_times(SHORT_TIMES, 0, last, &deltas).bytes(),
             expected,
         ));
     }
@@ -485,7 +493,8 @@ pub fn hostile() -> Vec<Case> {
         (&[0, 0, 0, 0, 0, 0x15, 0xB4], Err(7)),
         (&[1, 0, 0, 0, 0, 0x15, 0xB4], Err(4)),
         (&[0, 0, 0, 0, 1, 0x0A, 0xB4], Err(5)),
-        (&[0, 0, 0, 0, 1, 0x09, 0xB4], Err(6)),
+        (&[0, 0, 0, 0, 1, 0x09, 0xB4], Err(7)),
+        (&[0, 0, 0, 0, 1, 0x09, 0, 0, 0, 1, 0x06, 0xB4], Err(6)),
         (&[0, 0, 0, 0, 1, 0x01, 0xB4], Err(7)),
     ] {
         let bytes = [&head[..], rest].concat();
@@ -533,12 +542,12 @@ pub fn hostile() -> Vec<Case> {
     let entries = steps((4, 0), 8_000, (1, 1));
     cases.push(case(
         "8,001 time entries",
-        with_times(&one, 0, 8_000, &entries).bytes(),
+        with_times(SHORT_TIMES, 0, 8_000, &entries).bytes(),
         Ok(()),
     ));
     cases.push(case(
         "8,001 time entries, the last too late",
-        with_times(&one, 0, 7_999, &entries).bytes(),
+        with_times(SHORT_TIMES, 0, 7_999, &entries).bytes(),
         Err(13),
     ));
 
@@ -582,7 +591,7 @@ pub fn hostile() -> Vec<Case> {
     ] {
         cases.push(case(
             format!("8,001 time entries {origin}"),
-            with_times(&one, bounds.0, bounds.1, &steps(first, 8_000, step)).bytes(),
+            with_times(SHORT_TIMES, bounds.0, bounds.1, &steps(first, 8_000, step)).bytes(),
             expected,
         ));
     }
@@ -595,18 +604,18 @@ pub fn hostile() -> Vec<Case> {
         entries.push(last);
         cases.push(case(
             format!("8,001 equal time entries, then {origin}"),
-            with_times(&one, 0, 6, &entries).bytes(),
+            with_times(SHORT_TIMES, 0, 6, &entries).bytes(),
             expected,
         ));
     }
     // 40 entries at each of 200 positions.
     let groups = (0..8_000).map(|entry| match entry {
         0 => (4, 0),
-        _ => (u32::from(entry % 40 == 0), u32::from(entry % 3 == 0)),
+        _ => (u32::from(entry % 40 == 0), i64::from(entry % 3 == 0)),
     });
     cases.push(case(
         "40 time entries at each of 200 positions",
-        with_times(&one, 0, 8_000, &Vec::from_iter(groups)).bytes(),
+        with_times(SHORT_TIMES, 0, 8_000, &Vec::from_iter(groups)).bytes(),
         Ok(()),
     ));
     for (place, origin) in ["the first", "the second", "the third", "none"]
@@ -615,10 +624,12 @@ pub fn hostile() -> Vec<Case> {
     {
         cases.push(case(
             format!("1,500 time entries at {origin} of three changes"),
-            shared_position(1_500, place),
+            shared_position(SHORT_TIMES, 0, 1_500, place),
             Ok(()),
         ));
     }
+
+    cases.extend(long_times::cases());
 
     // The small program's limit.
     let small = tables(&one);
@@ -633,7 +644,7 @@ pub fn hostile_large() -> Vec<Case> {
     let base = valid_of(&mut random, &Shape::SMALL);
     let texts = text_chain(LONGEST, 4_096, None, true);
     let shared = steps((4, 0), 1_999_999, (0, 1));
-    vec![
+    let mut cases = vec![
         case("16,777,215 bytes", padded(&base, LONGEST - 1), Ok(())),
         case("16,777,216 bytes", padded(&base, LONGEST), Ok(())),
         case("16,777,217 bytes", padded(&base, LONGEST + 1), Err(1)),
@@ -651,15 +662,17 @@ pub fn hostile_large() -> Vec<Case> {
         ),
         case(
             "2,000,000 time entries at one position",
-            with_times(&[bits(1)], 0, 1_999_999, &shared).bytes(),
+            with_times(SHORT_TIMES, 0, 1_999_999, &shared).bytes(),
             Ok(()),
         ),
         case(
             "2,000,000 time entries at one position, the first too early",
-            with_times(&[bits(1)], 1, 1_999_999, &shared).bytes(),
+            with_times(SHORT_TIMES, 1, 1_999_999, &shared).bytes(),
             Err(13),
         ),
-    ]
+    ];
+    cases.extend(long_times::most_entries());
+    cases
 }
 
 /// A file of `total` bytes whose `widths` roots, each of another width, share one chain of 1-bit

@@ -2,6 +2,7 @@
 
 use crate::draft::Draft;
 use crate::random::Random;
+use crate::times::{head_length, table_length, time_bytes, time_length, time_range};
 use crate::valid::pack;
 
 /// A trace whose facilities change in any order, with named facilities all of one width.
@@ -13,6 +14,8 @@ pub struct Large {
     pub width: u32,
     /// The number of time entries.
     pub entries: usize,
+    /// The tag of the times: 06 or 09.
+    pub times_tag: u8,
 }
 
 /// The file of a shape that leaves room for changes.
@@ -41,15 +44,15 @@ pub fn large(shape: &Large) -> Vec<u8> {
         draft.append_words(&[0, shape.width - 1, 0, 0]);
     }
     let sync = draft.append(&vec![0; 4 * n]);
-    let times = draft.append_words(&[shape.entries as u32, 0, u32::MAX]);
-    draft.append(&vec![0; 8 * shape.entries]);
+    let tag = shape.times_tag;
+    let times = draft.append(&vec![0; table_length(tag, shape.entries)]);
     let changes = draft.end();
     draft.items = vec![
         (0x01, changes as u32),
         (0x02, sync as u32),
         (0x03, names_at as u32),
         (0x04, geometry as u32),
-        (0x06, times as u32),
+        (tag, times as u32),
     ];
 
     // Behind the body: END, five items, B4.
@@ -76,14 +79,18 @@ pub fn large(shape: &Large) -> Vec<u8> {
     // Entries evenly over the changes.
     let room = draft.end() - changes;
     let position = |entry: usize| changes + entry * room / shape.entries;
+    draft.set_word(times, shape.entries as u32);
+    let bytes = time_length(tag);
+    draft.set(times + 4 + bytes, &time_bytes(tag, time_range(tag).1));
+    let positions_at = times + head_length(tag);
     for entry in 0..shape.entries {
         let step = match entry {
             0 => changes,
             _ => position(entry) - position(entry - 1),
         };
-        draft.set_word(times + 12 + 4 * entry, step as u32);
-        let time = times + 12 + 4 * (shape.entries + entry);
-        draft.set_word(time, random.within(1, 20) as u32);
+        draft.set_word(positions_at + 4 * entry, step as u32);
+        let time_at = positions_at + 4 * shape.entries + bytes * entry;
+        draft.set(time_at, &time_bytes(tag, random.within_signed(1, 20)));
     }
     draft.bytes()
 }

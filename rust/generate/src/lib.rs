@@ -10,6 +10,7 @@ mod hostile;
 mod large;
 mod random;
 mod tables;
+mod times;
 mod valid;
 
 pub use damage::{blind, clean_and_dirty, Damage, Neighbours, DAMAGES};
@@ -18,6 +19,7 @@ pub use draft::{change_bytes, Change, Draft, Facility, Kind, Meant};
 pub use hostile::{hostile, hostile_large, most_visits, widest_sharing};
 pub use large::{large, Large};
 pub use random::Random;
+pub use times::{head_length, other_times, time_length, LONG_TIMES, SHORT_TIMES};
 pub use valid::{pack, valid, valid_of, Shape, REAL_TEST};
 
 /// A file and where it comes from.

@@ -35,6 +35,15 @@ impl Random {
         }
     }
 
+    /// The same with a sign.
+    pub fn within_signed(&mut self, low: i64, high: i64) -> i64 {
+        let above = match high > low {
+            true => self.within(0, high.wrapping_sub(low) as u64),
+            false => 0,
+        };
+        low.wrapping_add(above as i64)
+    }
+
     /// A number below `count`, which isn't 0.
     pub fn below(&mut self, count: usize) -> usize {
         (self.any() % count as u64) as usize

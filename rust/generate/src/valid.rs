@@ -2,6 +2,7 @@
 
 use crate::draft::{change_bytes, least_k, unused_bits, Change, Draft, Facility, Kind, Meant};
 use crate::random::Random;
+use crate::times::{other_times, table_length, time_range, TimeTable, LONG_TIMES, SHORT_TIMES};
 use std::collections::{BTreeSet, VecDeque};
 
 /// 3.14159 in binary64, lowest byte first.
@@ -9,9 +10,6 @@ pub const REAL_TEST: [u8; 8] = [0x6E, 0x86, 0x1B, 0xF0, 0xF9, 0x21, 0x09, 0x40];
 
 /// The symbols of the codes 0 to 8.
 const SYMBOLS: [u8; 9] = *b"01ZXHUWL-";
-
-/// The tags that must be there.
-pub const NEEDED: [u8; 5] = [0x01, 0x02, 0x03, 0x04, 0x06];
 
 /// How large a trace may become.
 #[derive(Clone, Copy, Debug)]
@@ -116,7 +114,8 @@ pub fn valid_of(random: &mut Random, shape: &Shape) -> Draft {
     let with_timescale = random.chance(2, 3);
     let with_initial = random.chance(2, 3);
     let with_real_test = has_real || random.chance(1, 4);
-    let mut bodies = vec![0x02, 0x03, 0x04, 0x06];
+    let times_tag = random.pick(&[SHORT_TIMES, LONG_TIMES]);
+    let mut bodies = vec![0x02, 0x03, 0x04, times_tag];
     if with_timescale && random.chance(2, 3) {
         bodies.push(0x05);
     }
@@ -147,7 +146,9 @@ pub fn valid_of(random: &mut Random, shape: &Shape) -> Draft {
                     0x02 => lay_sync(random, &mut draft, &mut events, &mut last_offset),
                     0x03 => lay_names(random, &mut draft),
                     0x04 => lay_geometry(random, &mut draft, &mut events, &mut last_offset),
-                    0x06 => draft.body.extend(vec![0; 12 + 8 * m]),
+                    SHORT_TIMES | LONG_TIMES => {
+                        draft.append(&vec![0; table_length(tag, m)]);
+                    }
                     0x08 => {
                         let mut test = [0; 8];
                         for (byte, at) in real_order.iter().enumerate() {
@@ -602,41 +603,57 @@ fn fill_times(random: &mut Random, draft: &mut Draft, m: usize) {
         (false, true),
         (true, true),
     ]);
+    let tag = draft.times_tag();
     let positions = positions(random, draft, m, tied);
-    let times = times(random, m, equal);
-    let (first, last) = match (times.first(), times.last()) {
-        (Some(first), Some(last)) => (
-            match random.chance(1, 2) {
-                true => *first,
-                false => random.within(0, *first),
-            },
-            match random.chance(1, 2) {
-                true => *last,
-                false => random.within(*last, 0xFFFF_FFFF),
-            },
-        ),
-        _ => (random.any() >> 32, random.any() >> 32),
+    let times = times(random, tag, m, equal);
+    let (first, last) = first_and_last(random, tag, &times);
+    let table = TimeTable {
+        tag,
+        first,
+        last,
+        positions: deltas(&positions, |delta| delta as u32),
+        times: deltas(&times, |delta| delta),
     };
-    let at = draft.start(0x06);
-    let mut words = vec![m as u32, first as u32, last as u32];
-    for list in [&positions, &times] {
-        let mut before = 0;
-        for number in list {
-            words.push((number - before) as u32);
-            before = *number;
-        }
-    }
-    for (place, word) in words.iter().enumerate() {
-        draft.set_word(at + 4 * place, *word);
-    }
+    draft.set(draft.times_at(), &table.bytes());
     // Of equal positions the last in the table decides, and before all of them entry 0 itself.
     for change in &mut draft.changes {
         let entry = positions
             .iter()
-            .rposition(|position| *position <= change.offset as u64)
+            .rposition(|position| *position <= change.offset as i64)
             .unwrap_or(0);
-        change.time = times[entry] as u32;
+        change.time = times[entry];
     }
+}
+
+/// The first number and the differences of neighbours.
+fn deltas<T>(list: &[i64], of: fn(i64) -> T) -> Vec<T> {
+    let mut before = 0;
+    let differences = list.iter().map(|number| {
+        let difference = number - before;
+        before = *number;
+        of(difference)
+    });
+    differences.collect()
+}
+
+/// Bounds of the times: those themselves or wider ones. Without a time any two numbers.
+fn first_and_last(random: &mut Random, tag: u8, times: &[i64]) -> (i64, i64) {
+    let (least, greatest) = time_range(tag);
+    let (Some(low), Some(high)) = (times.first(), times.last()) else {
+        return (
+            random.within_signed(least, greatest),
+            random.within_signed(least, greatest),
+        );
+    };
+    let first = match random.chance(1, 2) {
+        true => *low,
+        false => random.within_signed(least, *low),
+    };
+    let last = match random.chance(1, 2) {
+        true => *high,
+        false => random.within_signed(*high, greatest),
+    };
+    (first, last)
 }
 
 /// How many different numbers a list of m has: fewer where some repeat.
@@ -649,8 +666,8 @@ fn different(random: &mut Random, m: usize, repeat: bool) -> usize {
 
 /// m numbers that never fall: each of a set of at most m, the others repeat its first, its last, one or
 /// any of it.
-fn repeated(random: &mut Random, numbers: BTreeSet<u64>, m: usize) -> Vec<u64> {
-    let mut list: Vec<u64> = numbers.into_iter().collect();
+fn repeated(random: &mut Random, numbers: BTreeSet<i64>, m: usize) -> Vec<i64> {
+    let mut list: Vec<i64> = numbers.into_iter().collect();
     let count = list.len();
     let place = random.below(count.max(1));
     let style = random.below(4);
@@ -667,12 +684,12 @@ fn repeated(random: &mut Random, numbers: BTreeSet<u64>, m: usize) -> Vec<u64> {
     list
 }
 
-fn positions(random: &mut Random, draft: &Draft, m: usize, tied: bool) -> Vec<u64> {
-    let end = draft.end() as u64;
+fn positions(random: &mut Random, draft: &Draft, m: usize, tied: bool) -> Vec<i64> {
+    let end = draft.end() as i64;
     let mut count = different(random, m, tied);
     let mut positions = BTreeSet::new();
     // Above all changes, so that entry 0 decides for each of them. The newest has two bytes or more.
-    let above = draft.changes.last().map_or(4, |it| it.offset as u64 + 1);
+    let above = draft.changes.last().map_or(4, |it| it.offset as i64 + 1);
     let room = (end - above) as usize;
     let behind_all = random.chance(1, 5) && (tied || count <= room);
     if behind_all {
@@ -682,16 +699,16 @@ fn positions(random: &mut Random, draft: &Draft, m: usize, tied: bool) -> Vec<u6
     }
     while positions.len() < count {
         if behind_all {
-            positions.insert(random.within(above, end - 1));
+            positions.insert(random.within_signed(above, end - 1));
             continue;
         }
         positions.insert(match draft.changes.is_empty() || random.chance(1, 3) {
-            true => random.within(4, end - 1),
-            false => draft.changes[random.below(draft.changes.len())].offset as u64,
+            true => random.within_signed(4, end - 1),
+            false => draft.changes[random.below(draft.changes.len())].offset as i64,
         });
         // A few changes may not give enough different positions.
         if random.chance(1, 4) {
-            positions.insert(random.within(4, end - 1));
+            positions.insert(random.within_signed(4, end - 1));
         }
         while positions.len() > count {
             positions.pop_last();
@@ -700,20 +717,56 @@ fn positions(random: &mut Random, draft: &Draft, m: usize, tied: bool) -> Vec<u6
     repeated(random, positions, m)
 }
 
-fn times(random: &mut Random, m: usize, equal: bool) -> Vec<u64> {
+fn times(random: &mut Random, tag: u8, m: usize, equal: bool) -> Vec<i64> {
     let count = different(random, m, equal);
-    let span = random.pick(&[3 * m as u64, 3 * m as u64, 1_000 * m as u64, 0xFFFF_FFFF]);
+    let (low, high) = match tag {
+        SHORT_TIMES => short_span(random, m as i64),
+        _ => long_span(random, m as i64),
+    };
     let mut times = BTreeSet::new();
     if m > 0 && random.chance(1, 4) {
-        times.insert(0);
+        times.insert(low);
     }
     if m > 1 && random.chance(1, 8) {
-        times.insert(0xFFFF_FFFF);
+        times.insert(time_range(tag).1);
     }
+    // From the one end of the range to the other, by the largest deltas.
+    if tag == LONG_TIMES && m > 4 && random.chance(1, 8) {
+        times.extend([i64::MIN, -1, i64::MAX - 1, i64::MAX]);
+    }
+    let by_high_half = tag == LONG_TIMES && random.chance(1, 5);
     while times.len() < count {
-        times.insert(random.within(0, span));
+        times.insert(match by_high_half {
+            true => random.within_signed(-(m as i64), m as i64) << 32 | random.pick(&[0, 1, 7]),
+            false => random.within_signed(low, high),
+        });
     }
-    repeated(random, times, m)
+    let mut times = repeated(random, times, m);
+    // A delta of 8 bytes is at most 2^63 - 1: later times come down to what it leads to.
+    for place in 1..m {
+        let farthest = times[place - 1].saturating_add(i64::MAX);
+        times[place] = times[place].min(farthest);
+    }
+    times
+}
+
+/// Where m times of 32 bits lie.
+fn short_span(random: &mut Random, m: i64) -> (i64, i64) {
+    (0, random.pick(&[3 * m, 3 * m, 1_000 * m, 0xFFFF_FFFF]))
+}
+
+/// Where m times of 64 bits lie: at the least number, below the greatest, around 0 or 2^32, or in the whole
+/// range.
+fn long_span(random: &mut Random, m: i64) -> (i64, i64) {
+    let span = random.pick(&[3 * m, 3 * m, 1_000 * m, 1 << 33, i64::MAX]);
+    match random.below(6) {
+        0 => (i64::MIN, i64::MIN + span),
+        1 => (i64::MAX - span, i64::MAX),
+        2 => (-(span / 2), span - span / 2),
+        3 => ((1 << 32) - span / 2, (1 << 32) + (span - span / 2)),
+        4 => (-span, -1),
+        _ => (i64::MIN, i64::MAX),
+    }
 }
 
 /// The section list in any order, with items that are skipped and items that don't count.
@@ -771,8 +824,11 @@ fn lay_section_list(
     }
     // Absent by a value of 0, even if one farther from END isn't 0.
     if random.chance(1, 3) {
-        let tag = random.within(0x09, 0x12) as u8;
+        let tag = random.within(0x0A, 0x12) as u8;
         draft.items.push((tag, 0));
+    }
+    if random.chance(1, 3) {
+        draft.items.push((other_times(draft.times_tag()), 0));
     }
     random.shuffle(&mut draft.items);
     if random.chance(1, 2) {

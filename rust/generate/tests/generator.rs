@@ -124,12 +124,11 @@ fn values_at_times(draft: &Draft, bytes: &[u8], judged: &reader::Judged) {
     let mut random = Random::new(draft.end() as u64);
     for (number, facility) in draft.facilities.iter().enumerate().take(8) {
         for _ in 0..4 {
-            let time = match draft.changes.is_empty() {
-                true => random.word(),
+            let time = match draft.changes.is_empty() || random.chance(1, 8) {
+                true => random.pick(&[i64::MIN, -1, 0, i64::MAX, random.clone().any() as i64]),
                 false => {
                     let change = &draft.changes[random.below(draft.changes.len())];
-                    let near = random.pick(&[0, 1, u32::MAX]);
-                    change.time.wrapping_add(near)
+                    change.time.saturating_add(random.pick(&[-1, 0, 1]))
                 }
             };
             let expected = draft
@@ -381,16 +380,30 @@ fn dirty_files_reach_every_refusal_of_changes() {
     }
 }
 
+/// First and last of a table of times.
+fn first_and_last(draft: &Draft) -> (i64, i64) {
+    let at = draft.times_at() + 4;
+    let bytes = time_length(draft.times_tag());
+    (draft.time(at), draft.time(at + bytes))
+}
+
 /// The deltas of a table of times: of the positions, and of the times.
-fn deltas(draft: &Draft) -> [Vec<u32>; 2] {
+fn deltas(draft: &Draft) -> (Vec<u32>, Vec<i64>) {
     let m = draft.entries() as usize;
-    let at = draft.start(0x06) + 12;
-    [at, at + 4 * m].map(|at| (0..m).map(|entry| draft.word(at + 4 * entry)).collect())
+    let bytes = time_length(draft.times_tag());
+    let at = draft.times_at() + head_length(draft.times_tag());
+    let positions = (0..m).map(|entry| draft.word(at + 4 * entry));
+    let times = (0..m).map(|entry| draft.time(at + 4 * m + bytes * entry));
+    (positions.collect(), times.collect())
 }
 
 /// Whether two entries share a position, and whether two have one time.
 fn zeros(draft: &Draft) -> [bool; 2] {
-    deltas(draft).map(|deltas| deltas.iter().skip(1).any(|delta| *delta == 0))
+    let (positions, times) = deltas(draft);
+    [
+        positions.iter().skip(1).any(|delta| *delta == 0),
+        times.iter().skip(1).any(|delta| *delta == 0),
+    ]
 }
 
 /// Tables of times rise, or positions, times or both repeat: at every place, in runs, and so that it shows
@@ -414,12 +427,15 @@ fn entries_that_share_a_position_or_a_time() {
         meet("rising positions, equal times", !tied && equal);
         meet("shared positions and equal times", tied && equal);
 
-        let shared = |count: usize, part: fn(&(u32, u32)) -> u32| {
+        let shared = |count: usize, part: fn(&(u32, i64)) -> i64| {
             let mut runs = entries.windows(count);
             runs.any(|run| part(&run[0]) == part(&run[count - 1]))
         };
-        meet("one position three times", shared(3, |entry| entry.0));
-        meet("one position six times", shared(6, |entry| entry.0));
+        meet(
+            "one position three times",
+            shared(3, |entry| entry.0.into()),
+        );
+        meet("one position six times", shared(6, |entry| entry.0.into()));
         meet("one time three times", shared(3, |entry| entry.1));
         meet("one time six times", shared(6, |entry| entry.1));
         let twice = entries.windows(2).any(|pair| pair[0] == pair[1]);
@@ -427,9 +443,8 @@ fn entries_that_share_a_position_or_a_time() {
         let same = entries.iter().all(|entry| entry == lowest);
         meet("all entries equal", several && same);
         let at = |position: u32| entries.iter().filter(|entry| entry.0 == position).count();
-        let first = draft.word(draft.start(0x06) + 4);
-        let last = draft.word(draft.start(0x06) + 8);
-        let of_time = |time: u32| entries.iter().filter(|entry| entry.1 == time).count();
+        let (first, last) = first_and_last(&draft);
+        let of_time = |time: i64| entries.iter().filter(|entry| entry.1 == time).count();
         meet("shared first position", at(lowest.0) > 1);
         meet("shared last position", at(highest.0) > 1);
         meet("one position", several && at(lowest.0) == entries.len());
@@ -500,7 +515,8 @@ fn zero_deltas_on_both_sides() {
         "equal times before first or after last",
         "time of an entry that never decides",
         "position sum past 2^32",
-        "time sum past 2^32",
+        "time sum out of range",
+        "time delta below 0",
     ];
     for name in names {
         let damage = DAMAGES.iter().find(|damage| damage.name == name);
@@ -541,6 +557,135 @@ fn zero_deltas_in_files_of_every_later_refusal() {
     }
 }
 
+/// Both tables of times occur, and in those of 64 bits both signs, both ends of the range, deltas of every
+/// size, and any first and last.
+#[test]
+fn times_of_both_kinds() {
+    let (least, most) = (i64::MIN, i64::MAX);
+    let mut seen: BTreeMap<&str, u32> = BTreeMap::new();
+    for seed in 0..3_000 {
+        let draft = valid(seed);
+        let bytes = draft.bytes();
+        let entries = reader::Judged::new(&bytes).map(|judged| judged.entries());
+        let entries = entries.expect("a valid trace");
+        let times = Vec::from_iter(entries.iter().map(|entry| entry.1));
+        let mut meet = |what, met: bool| *seen.entry(what).or_default() += u32::from(met);
+        let tag = draft.times_tag();
+        let other = other_times(tag);
+        let items = |tag| draft.items.iter().filter(move |item| item.0 == tag);
+        let taken_back = draft.value(other) == 0 && items(other).any(|item| item.1 != 0);
+        let met_once = items(tag).count() == 1 && items(other).count() == 0;
+        assert_eq!(draft.value(other), 0);
+        if tag == SHORT_TIMES {
+            meet("06", true);
+            meet("06: 09 not met", met_once);
+            meet("06: 09 taken back by 0", taken_back);
+            meet("06: no entry", times.is_empty());
+            let greatest = times.last() == Some(&0xFFFF_FFFF);
+            meet("06: last time 2^32 - 1", greatest);
+            meet(
+                "06: times from 2^31 on",
+                times.iter().any(|it| *it >= 1 << 31),
+            );
+            continue;
+        }
+        let (first, last) = first_and_last(&draft);
+        let deltas = deltas(&draft).1;
+        meet("09", true);
+        meet("09: 06 not met", met_once);
+        meet("09: 06 taken back by 0", taken_back);
+        meet("09: no entry", times.is_empty());
+        meet(
+            "09: no entry, first above last",
+            times.is_empty() && first > last,
+        );
+        let (Some(lowest), Some(highest)) = (times.first(), times.last()) else {
+            continue;
+        };
+        meet("09: first time below 0", *lowest < 0);
+        meet("09: all times below 0", *highest < 0);
+        meet("09: times of both signs", *lowest < 0 && *highest >= 0);
+        meet("09: the least number", *lowest == least);
+        meet("09: the greatest number", *highest == most);
+        meet("09: both ends", *lowest == least && *highest == most);
+        let past = |time: &i64| *time > 0xFFFF_FFFF;
+        meet("09: all times past 32 bits", past(lowest));
+        meet(
+            "09: some times past 32 bits",
+            !past(lowest) && past(highest),
+        );
+        meet("09: first is the first time", first == *lowest);
+        meet("09: first below all", first < *lowest);
+        meet("09: last is the last time", last == *highest);
+        meet("09: last above all", last > *highest);
+        let later = &deltas[1..];
+        meet("09: a delta past 32 bits", later.iter().any(past));
+        meet("09: the largest delta", later.contains(&most));
+        meet("09: a delta of 0", later.contains(&0));
+        meet(
+            "09: small deltas",
+            later.iter().any(|it| (1..100).contains(it)),
+        );
+        let sums = deltas.iter().scan(0_i64, |sum, delta| {
+            *sum += delta;
+            Some(*sum)
+        });
+        assert_eq!(Vec::from_iter(sums), times, "seed {seed}");
+        // Changes whose times have the same low half.
+        let halves = draft.changes.iter().map(|it| (it.time as u32, it.time));
+        let halves = BTreeMap::from_iter(halves);
+        let other = |it: &lxt_generate::Change| halves[&(it.time as u32)] != it.time;
+        meet(
+            "09: changes apart by the high half",
+            draft.changes.iter().any(other),
+        );
+    }
+    for (what, count) in &seen {
+        println!("{count:7} {what}");
+    }
+    assert_eq!(seen.len(), 28);
+    for (what, count) in seen {
+        assert!(count >= 20, "{what}: {count}");
+    }
+}
+
+/// Each rule behind the frame is broken in files of both tables of times; those of 64-bit times alone, in
+/// such.
+#[test]
+fn times_of_both_kinds_in_files_of_every_refusal() {
+    let long_only = [
+        "start of 64-bit times",
+        "time delta below 0",
+        "time below 0 and first 0",
+        "time in bounds by its low half",
+    ];
+    for damage in DAMAGES.iter().filter(|it| it.number >= 5) {
+        // By the tag: refused, and accepted on the other side.
+        let mut counts = BTreeMap::from([(SHORT_TIMES, [0; 2]), (LONG_TIMES, [0; 2])]);
+        for neighbours in neighbours_by(damage) {
+            let sides = [
+                (neighbours.over.times_tag(), true),
+                (neighbours.near.times_tag(), neighbours.near_answer.is_ok()),
+            ];
+            for (side, (tag, counted)) in sides.into_iter().enumerate() {
+                counts.get_mut(&tag).expect("a tag")[side] += u32::from(counted);
+            }
+        }
+        println!("{:2} {:45} {counts:?}", damage.number, damage.name);
+        let [short, long] = [SHORT_TIMES, LONG_TIMES].map(|tag| counts[&tag]);
+        let both = !long_only.contains(&damage.name);
+        assert_eq!(short[1] > 0, both && long[1] > 0, "{}", damage.name);
+        // Both present, or neither, counts as 06 here.
+        let least = if matches!(damage.number, 6 | 7) {
+            0
+        } else {
+            10
+        };
+        assert!(long[0] >= least, "{}: {counts:?}", damage.name);
+        assert!(short[0] >= if both { 10 } else { 0 }, "{}", damage.name);
+    }
+}
+
 /// Dense chains come to every answer that chains can have.
 #[test]
 fn dense_chains() {
@@ -567,33 +712,42 @@ fn seeds_are_deterministic() {
 fn large_traces_have_their_shape() {
     for facilities in [1, 122, 900] {
         for width in [1, 8, 33, 4_096] {
-            let shape = Large {
-                bytes: 200_000,
-                facilities,
-                width,
-                entries: 2_000,
-            };
-            let file = large(&shape);
-            assert!(file.len() <= shape.bytes && file.len() > shape.bytes - 2_100);
-            let judged = reader::Judged::new(&file).expect("a trace");
-            let changes: usize = judged.chains().iter().map(Vec::len).sum();
-            assert_eq!(judged.summary().facilities as usize, facilities);
-            assert_eq!(judged.facts(0).map(|facts| facts.width), Ok(width));
-            assert!(changes > if width == 4_096 { 100 } else { 9_000 });
-            // The times of the oldest and the newest change lie far apart.
-            let mut times = judged.chains().concat();
-            times.sort_unstable();
-            let time = |offset| {
-                let root = judged.chains().iter().position(|it| it.contains(&offset));
-                let root = root.expect("a root") as u32;
-                judged
-                    .change(root, offset, &mut [0; 4_096])
-                    .expect("a change")
-                    .time
-            };
-            assert!(time(times[0]) <= 20 && time(times[changes - 1]) > 15_000);
+            for times_tag in [SHORT_TIMES, LONG_TIMES] {
+                has_its_shape(&Large {
+                    bytes: 200_000,
+                    facilities,
+                    width,
+                    entries: 2_000,
+                    times_tag,
+                });
+            }
         }
     }
+}
+
+fn has_its_shape(shape: &Large) {
+    let file = large(shape);
+    assert!(file.len() <= shape.bytes && file.len() > shape.bytes - 2_100);
+    let judged = reader::Judged::new(&file).expect("a trace");
+    let changes: usize = judged.chains().iter().map(Vec::len).sum();
+    assert_eq!(judged.summary().facilities as usize, shape.facilities);
+    assert_eq!(judged.facts(0).map(|facts| facts.width), Ok(shape.width));
+    assert!(changes > if shape.width == 4_096 { 100 } else { 9_000 });
+    // The tag of the times is the one before B4.
+    assert_eq!(file[file.len() - 2], shape.times_tag);
+    assert_eq!(judged.entries().len(), shape.entries);
+    // The times of the oldest and the newest change lie far apart.
+    let mut times = judged.chains().concat();
+    times.sort_unstable();
+    let time = |offset| {
+        let root = judged.chains().iter().position(|it| it.contains(&offset));
+        let root = root.expect("a root") as u32;
+        judged
+            .change(root, offset, &mut [0; 4_096])
+            .expect("a change")
+            .time
+    };
+    assert!(time(times[0]) <= 20 && time(times[changes - 1]) > 15_000);
 }
 
 #[test]
@@ -625,6 +779,21 @@ fn hostile_files_are_judged() {
         let count = |answer| answers.iter().filter(|it| **it == Some(answer)).count();
         let counts = (count(Ok(())), count(Err(13)));
         assert_eq!(counts, (accepted, refused), "{start}");
+    }
+    // 64-bit times at each boundary: how many are accepted, and refused by each number.
+    for (start, expected) in [
+        ("64-bit times: ", &[(0, 26), (8, 43), (13, 45)][..]),
+        ("8,001 64-bit times", &[(0, 3), (13, 5)]),
+        ("8,001 equal 64-bit times", &[(0, 2), (13, 3)]),
+        ("1,500 64-bit times at", &[(0, 4)]),
+        ("times: ", &[(0, 14), (5, 8), (6, 16), (7, 10), (8, 6)]),
+    ] {
+        let mut counts: BTreeMap<usize, u32> = BTreeMap::new();
+        for case in cases.iter().filter(|case| case.origin.starts_with(start)) {
+            *counts.entry(slot(answer(&case.bytes))).or_default() += 1;
+        }
+        println!("{start}: {counts:?}");
+        assert_eq!(Vec::from_iter(counts), expected, "{start}");
     }
 }
 

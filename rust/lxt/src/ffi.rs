@@ -86,7 +86,7 @@ pub(crate) mod c {
             file: *const u8,
             length: usize,
             facility: u32,
-            time: u32,
+            time: i64,
             bits: *mut u8,
             room: usize,
             value: *mut Value,
@@ -106,7 +106,7 @@ pub(crate) mod c {
             offset: u32,
             bits: *mut u8,
             room: usize,
-            time: *mut u32,
+            time: *mut i64,
             value: *mut Value,
             clean: *mut u32,
         ) -> u32;
@@ -185,7 +185,7 @@ pub(crate) fn change_before(file: &[u8], facility: u32, offset: u32, before: &mu
 pub(crate) fn value_at(
     file: &[u8],
     facility: u32,
-    time: u32,
+    time: i64,
     bits: &mut [u8],
     value: &mut c::Value,
 ) -> u32 {
@@ -233,7 +233,7 @@ pub(crate) fn change(
     facility: u32,
     offset: u32,
     bits: &mut [u8],
-    time: &mut u32,
+    time: &mut i64,
     value: &mut c::Value,
     clean: &mut u32,
 ) -> u32 {
@@ -247,7 +247,7 @@ pub(crate) fn change(
             offset,
             bits.as_mut_ptr(),
             bits.len(),
-            time as *mut u32,
+            time as *mut i64,
             value as *mut c::Value,
             clean as *mut u32,
         )

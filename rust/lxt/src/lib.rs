@@ -127,7 +127,9 @@ pub enum Value {
 #[derive(Clone, Copy, Debug, PartialEq, Eq)]
 #[non_exhaustive]
 pub struct Changed<V> {
-    pub time: u32,
+    /// In units of the [timescale](Summary::timescale). In a file with 32-bit times (tag 06) it is 0 to
+    /// 4,294,967,295, in one with 64-bit times (tag 09) any number, below 0 too.
+    pub time: i64,
     pub value: V,
     /// Whether the change's padding is clean: the bits of its last data byte that no symbol uses are all 0.
     /// Other bits there are accepted and change no value. A real, a text and a change without data or
@@ -252,10 +254,10 @@ pub fn change(
     })
 }
 
-/// The value of a facility at a time.
+/// The value of a facility at a time, which may be any: before the first change it is the initial one.
 ///
 /// Bits and integers need as many lent bytes as they are wide; other bytes stay.
-pub fn value_at(file: &[u8], facility: u32, time: u32, bits: &mut [u8]) -> Result<Value, Refusal> {
+pub fn value_at(file: &[u8], facility: u32, time: i64, bits: &mut [u8]) -> Result<Value, Refusal> {
     let mut value = c::Value::default();
     accepted(ffi::value_at(file, facility, time, bits, &mut value))?;
     Ok(Value::of(value))

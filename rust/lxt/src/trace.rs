@@ -152,7 +152,16 @@ impl<'a> Trace<'a> {
     }
 
     /// The value of a facility at a time: that of the latest change up to it, else the initial one.
-    pub fn value_at(&self, facility: u32, time: u32) -> Result<Reading<'a>, Refusal> {
+    ///
+    /// ```
+    /// # let bytes = std::fs::read("../../traces/gpsim_blink.lxt").expect("a trace");
+    /// # let trace = lxt::Trace::open(&bytes).expect("an accepted trace");
+    /// let before_all = trace.value_at(0, i64::MIN)?;
+    /// let last = trace.value_at(0, i64::MAX)?;
+    /// println!("from {before_all} to {last}");
+    /// # Ok::<(), lxt::Refusal>(())
+    /// ```
+    pub fn value_at(&self, facility: u32, time: i64) -> Result<Reading<'a>, Refusal> {
         let mut bits = [0; WIDEST];
         let value = self.value_at_into(facility, time, &mut bits)?;
         Ok(self.reading(value, &bits))
@@ -163,7 +172,7 @@ impl<'a> Trace<'a> {
     pub fn value_at_into(
         &self,
         facility: u32,
-        time: u32,
+        time: i64,
         bits: &mut [u8],
     ) -> Result<Value, Refusal> {
         crate::value_at(self.bytes, facility, time, bits)

@@ -32,7 +32,7 @@ fn expected(file: &[u8]) -> Result<String, Refusal> {
         return Ok("no facilities".to_string());
     };
     let mut bits = vec![0; 4_096];
-    let value = judged.value_at(facility as u32, u32::MAX, &mut bits);
+    let value = judged.value_at(facility as u32, i64::MAX, &mut bits);
     let value = match value.expect("a value") {
         Value::Bits { width } => bits[..width as usize].escape_ascii().to_string(),
         Value::Real { bits } => f64::from_bits(bits).to_string(),

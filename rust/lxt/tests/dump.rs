@@ -13,6 +13,8 @@ use lxt_reference::Judged;
 
 #[allow(dead_code)]
 mod tied;
+#[allow(dead_code)]
+mod wide;
 
 /// The longest trace that the program reads.
 const LONGEST: usize = 65_536;
@@ -87,6 +89,15 @@ fn prints_the_examples_of_zero_deltas() {
 }
 
 #[test]
+fn prints_the_examples_of_64_bit_times() {
+    for example in wide::examples() {
+        let printed = printed(&example.file);
+        let printed = String::from_utf8(printed).expect("text");
+        assert_eq!(printed, example.lines(), "{}", example.name);
+    }
+}
+
+#[test]
 fn refuses_one_byte_more_than_the_limit() {
     let file = fs::read(repository().join("traces/lxtgen_big_1.lxt")).expect("a trace");
     for length in [LONGEST - 1, LONGEST, LONGEST + 1, LONGEST + 2, 4 * LONGEST] {
@@ -101,12 +112,14 @@ fn refuses_one_byte_more_than_the_limit() {
 
 #[test]
 fn prints_what_the_independent_reader_prints_of_generated_files() {
-    let (mut seen, mut dirty, mut shared) = (BTreeMap::new(), 0, 0);
+    let (mut seen, mut dirty, mut shared, mut below_0) = (BTreeMap::new(), 0, 0, 0);
     for seed in 0..4_000 {
         let case = lxt_generate::case(seed);
         if let Ok(judged) = Judged::new(&case.bytes) {
             dirty += u32::from(!judged.summary().clean);
             shared += u32::from(Entries::of(&judged).share_position());
+            let times = Entries::of(&judged).times();
+            below_0 += u32::from(times.first().is_some_and(|time| *time < 0));
         }
         compare(
             &case.bytes,
@@ -118,8 +131,9 @@ fn prints_what_the_independent_reader_prints_of_generated_files() {
     for number in (0..=17).filter(|number| *number != 9) {
         assert!(seen.contains_key(&number), "{number}: {seen:?}");
     }
-    // Rubbish in the padding, which is not printed, and time entries at one position.
-    assert!(dirty >= 200 && shared >= 200, "{dirty} {shared}");
+    // Rubbish in the padding, which is not printed, time entries at one position, and times below 0.
+    let counts = [dirty, shared, below_0];
+    assert!(counts.iter().all(|count| *count >= 200), "{counts:?}");
 }
 
 #[test]

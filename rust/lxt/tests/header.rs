@@ -7,6 +7,7 @@ use std::path::{Path, PathBuf};
 use std::process::Command;
 
 use lxt_compare::judge::TRACE;
+use lxt_compare::times::small_trace_09;
 use lxt_compare::traces;
 use lxt_reference::{Judged, Value};
 
@@ -97,7 +98,9 @@ int main(int count, char **words) {
     printf("%lu %lu %lu %c %lu %d\n", (unsigned long)n, (unsigned long)summary.changes,
            (unsigned long)summary.end, LXT_SYMBOLS[summary.initial], (unsigned long)summary.clean, timescale);
     for (f = 0; f <= n && f < 40; f++) {
-        uint32_t root, size, before, time, clean, offset, count = 0;
+        static const int64_t times[] = {50, -1, 0, INT64_MIN, 4294967296, INT64_MAX};
+        uint32_t root, size, before, clean, offset, count = 0;
+        int64_t time;
         lxt_facility facts;
         lxt_value value;
         int32_t msb, lsb;
@@ -116,12 +119,14 @@ int main(int count, char **words) {
         offset = pair[root].offset;
         while (count++ < 4 && lxt_change_before(file, length, f, offset, &before) == 0) {
             lxt_change(file, length, f, offset, bits, sizeof bits, &time, &value, &clean);
-            printf("%lu %lu %lu ", (unsigned long)before, (unsigned long)time, (unsigned long)clean);
+            printf("%lu %lld %lu ", (unsigned long)before, (long long)time, (unsigned long)clean);
             show(&value);
             offset = before;
         }
-        lxt_value_at(file, length, f, 50, bits, sizeof bits, &value);
-        show(&value);
+        for (count = 0; count < sizeof times / sizeof times[0]; count++) {
+            lxt_value_at(file, length, f, times[count], bits, sizeof bits, &value);
+            show(&value);
+        }
     }
     walk(file, length, n);
     return 0;
@@ -170,8 +175,10 @@ fn expected(file: &[u8]) -> String {
             out += &format!("{before} {} {} ", read.time, u32::from(read.clean));
             show(&mut out, read.value, &bits);
         }
-        let value = judged.value_at(facility, 50, &mut bits).expect("a value");
-        show(&mut out, value, &bits);
+        for time in [50, -1, 0, i64::MIN, 0x1_0000_0000, i64::MAX] {
+            let value = judged.value_at(facility, time, &mut bits);
+            show(&mut out, value.expect("a value"), &bits);
+        }
     }
     for (root, offset) in judged.full_list(&vec![1; n as usize]).expect("a list") {
         out += &format!("{root} {offset}\n");
@@ -234,17 +241,60 @@ fn a_c_program_answers_as_the_independent_reader() {
     }
     assert!(compared >= 20, "{compared}");
 
-    // Rubbish in the padding of every packing, line by line; the value at 50 is the newest.
-    let path = PathBuf::from(env!("CARGO_TARGET_TMPDIR")).join("padded.lxt");
-    std::fs::write(&path, padded::file()).expect("a place for a trace");
-    let ran = Command::new(&program).arg(path).output().expect("a run");
-    let lines = "3 4 139 X 0 -9\n\
-         3 bits 2 0 0 one\n4 7 1 bits 3 101 0\n0 3 0 bits 3 011 0\nbits 3 101 0\n\
-         3 bits 2 0 1 two\n7 7 1 bits 3 01Z 0\n0 3 0 bits 3 ZX1 0\nbits 3 01Z 0\n\
-         3 bits 2 0 2 four\n10 7 1 bits 3 -LW 0\n0 3 0 bits 3 01Z 0\nbits 3 -LW 0\n\
-         3 refused\n2 20\n1 17\n0 14\n2 10\n1 7\n0 4\nwalked 0\n";
-    assert_eq!(String::from_utf8_lossy(&ran.stdout), lines);
-    assert_eq!(expected(&padded::file()), lines);
+    for (name, file, lines) in by_hand() {
+        let path = PathBuf::from(env!("CARGO_TARGET_TMPDIR")).join(format!("{name}.lxt"));
+        std::fs::write(&path, &file).expect("a place for a trace");
+        let ran = Command::new(&program).arg(path).output().expect("a run");
+        assert_eq!(String::from_utf8_lossy(&ran.stdout), lines, "{name}");
+        assert_eq!(expected(&file), lines, "{name}");
+    }
+}
+
+/// Files and the lines of the program, worked out by hand.
+fn by_hand() -> [(&'static str, Vec<u8>, String); 3] {
+    // The values at 50, -1, 0, the least number, 2^32 and the greatest number, one symbol each.
+    let values = |symbols: [&str; 6]| {
+        symbols
+            .map(|it| format!("bits {} {it} 0\n", it.len()))
+            .concat()
+    };
+    let newest = |symbols: &'static str| values([symbols, "XXX", "XXX", "XXX", symbols, symbols]);
+    // Rubbish in the padding of every packing; the times are 3 and 7.
+    let padded = [
+        "3 4 139 X 0 -9\n",
+        "3 bits 2 0 0 one\n4 7 1 bits 3 101 0\n0 3 0 bits 3 011 0\n",
+        &newest("101"),
+        "3 bits 2 0 1 two\n7 7 1 bits 3 01Z 0\n0 3 0 bits 3 ZX1 0\n",
+        &newest("01Z"),
+        "3 bits 2 0 2 four\n10 7 1 bits 3 -LW 0\n0 3 0 bits 3 01Z 0\n",
+        &newest("-LW"),
+        "3 refused\n2 20\n1 17\n0 14\n2 10\n1 7\n0 4\nwalked 0\n",
+    ];
+    // 64-bit times: -5 and 5, and the least number and -1.
+    let small = |times: [&str; 2], symbols| {
+        let [newer, older] = times;
+        let changes = format!("4 {newer} 1 bits 1 0 0\n0 {older} 1 bits 1 1 0\n");
+        let head = "1 4 84 X 1 -9\n1 bits 0 0 0 a\n";
+        let tail = "1 refused\n0 6\n0 4\nwalked 0\n";
+        format!("{head}{changes}{}{tail}", values(symbols))
+    };
+    let (least, most) = (i64::MIN, i64::MAX);
+    [
+        ("padded", padded::file(), padded.concat()),
+        (
+            "wide",
+            small_trace_09(-5, 5, &[4, 2], &[-5, 10]),
+            small(["5", "-5"], ["0", "1", "1", "X", "0", "0"]),
+        ),
+        (
+            "widest",
+            small_trace_09(least, most, &[4, 2], &[least, most]),
+            small(
+                ["-1", "-9223372036854775808"],
+                ["0", "0", "0", "1", "0", "0"],
+            ),
+        ),
+    ]
 }
 
 /// The structs are the numbers that the functions write, in their order, and the constants the limits.
@@ -280,6 +330,11 @@ FIELD(lxt_pair, offset, 4, 4);
 ASSERT(LXT_SHORTEST_FILE == 6 && LXT_LONGEST_FILE == 16777216);
 ASSERT(LXT_MOST_FACILITIES == 4096 && LXT_LONGEST_NAME == 1023 && LXT_WIDEST == 4096);
 ASSERT(sizeof(LXT_SYMBOLS) == 9 + 1);
+
+/* Times are signed numbers of 64 bits, whether answered or asked for. */
+uint32_t (*const change)(const uint8_t *, size_t, uint32_t, uint32_t, uint8_t *, size_t, int64_t *, lxt_value *,
+                         uint32_t *) = lxt_change;
+uint32_t (*const value_at)(const uint8_t *, size_t, uint32_t, int64_t, uint8_t *, size_t, lxt_value *) = lxt_value_at;
 
 int main(void) {
     static const uint8_t file[7] = {0};
@@ -320,6 +375,7 @@ static void all(const uint8_t *file, size_t length) {
     lxt_handed handed;
     int8_t timescale;
     int32_t msb, lsb;
+    int64_t time;
     uint32_t one, clean;
     lxt_pair pair = {0, 0};
     uint8_t asked = 1;
@@ -328,8 +384,8 @@ static void all(const uint8_t *file, size_t length) {
     printf(" %d", (int)lxt_root(file, length, 0, &one));
     printf(" %d", (int)lxt_name(file, length, 0, NULL, 0, &one));
     printf(" %d", (int)lxt_change_before(file, length, 0, 6, &one));
-    printf(" %d", (int)lxt_change(file, length, 0, 6, NULL, 0, &one, &value, &clean));
-    printf(" %d", (int)lxt_value_at(file, length, 0, 9, NULL, 0, &value));
+    printf(" %d", (int)lxt_change(file, length, 0, 6, NULL, 0, &time, &value, &clean));
+    printf(" %d", (int)lxt_value_at(file, length, 0, INT64_MAX, NULL, 0, &value));
     printf(" %d", (int)lxt_start_walk(file, length, NULL, 0, NULL, 0));
     printf(" %d", (int)lxt_start_walk(file, length, NULL, 0, &pair, 1));
     printf(" %d", (int)lxt_start_walk(file, length, &asked, 1, NULL, 0));

@@ -1,46 +1,55 @@
 //! The proved judge against the independent reader, answer by answer.
 
 use lxt_compare::judge::{compare, Seen, TRACE};
+use lxt_compare::times::small_trace_09;
 use lxt_compare::traces;
 
-#[test]
-fn every_one_byte_change_of_the_small_trace() {
-    let mut seen = Seen::default();
-    for at in 0..TRACE.len() {
-        for value in 0..=255 {
-            let mut file = TRACE;
-            file[at] = value;
-            compare(&file, &format!("byte {at} is {value}"), &mut seen);
-        }
-    }
-    println!("{seen:?}");
-    assert!(seen.answers.len() > 10, "{seen:?}");
-    // Byte 6 made 30: four delta bytes, and then a data byte of rubbish.
-    assert!(seen.padding.len() == 2, "{seen:?}");
+/// The small trace, with 32-bit times and with 64-bit times.
+fn small_traces() -> [(&'static str, Vec<u8>); 2] {
+    let long = small_trace_09(-5, 5, &[4, 2], &[-5, 10]);
+    [("tag 06", TRACE.to_vec()), ("tag 09", long)]
 }
 
 #[test]
-fn every_shortening_and_lengthening_of_the_small_trace() {
-    let mut seen = Seen::default();
-    for length in 0..TRACE.len() {
-        compare(
-            &TRACE[..length],
-            &format!("first {length} bytes"),
-            &mut seen,
-        );
-        compare(&TRACE[length..], &format!("from byte {length}"), &mut seen);
-        let mut without = TRACE.to_vec();
-        without.remove(length);
-        compare(&without, &format!("without byte {length}"), &mut seen);
-    }
-    for at in 0..=TRACE.len() {
-        for value in [0x00, 0x01, 0x04, 0x08, 0x0A, 0x40, 0xB4, 0xFF] {
-            let mut with = TRACE.to_vec();
-            with.insert(at, value);
-            compare(&with, &format!("{value} put in at {at}"), &mut seen);
+fn every_one_byte_change_of_the_small_traces() {
+    for (name, trace) in small_traces() {
+        let mut seen = Seen::default();
+        for at in 0..trace.len() {
+            for value in 0..=255 {
+                let mut file = trace.clone();
+                file[at] = value;
+                compare(&file, &format!("{name}, byte {at} is {value}"), &mut seen);
+            }
         }
+        println!("{seen:?}");
+        assert!(seen.answers.len() > 10, "{seen:?}");
+        // Byte 6 made 30: four delta bytes, and then a data byte of rubbish.
+        assert!(seen.padding.len() == 2, "{seen:?}");
     }
-    println!("{seen:?}");
+}
+
+#[test]
+fn every_shortening_and_lengthening_of_the_small_traces() {
+    for (name, trace) in small_traces() {
+        let mut seen = Seen::default();
+        for length in 0..trace.len() {
+            let what = format!("{name}, {length}");
+            compare(&trace[..length], &format!("{what} bytes"), &mut seen);
+            compare(&trace[length..], &format!("from {what}"), &mut seen);
+            let mut without = trace.clone();
+            without.remove(length);
+            compare(&without, &format!("without byte {what}"), &mut seen);
+        }
+        for at in 0..=trace.len() {
+            for value in [0x00, 0x01, 0x04, 0x08, 0x0A, 0x40, 0xB4, 0xFF] {
+                let mut with = trace.clone();
+                with.insert(at, value);
+                let what = format!("{name}, {value} put in at {at}");
+                compare(&with, &what, &mut seen);
+            }
+        }
+        println!("{seen:?}");
+    }
 }
 
 #[test]
@@ -51,8 +60,9 @@ fn all_traces_of_the_folder() {
     }
     println!("{seen:?}");
     assert!(seen.answers[&0] >= 20, "{seen:?}");
-    // One has two time entries at one position.
+    // One has two time entries at one position, and two have 64-bit times.
     assert!(seen.times.shared >= 1, "{seen:?}");
+    assert!(seen.times.long >= 2, "{seen:?}");
 }
 
 #[test]
@@ -80,7 +90,7 @@ fn generated_files_reach_every_refusal_of_a_file() {
         assert!(seen.padding[&clean] >= 500, "{seen:?}");
     }
     let times = seen.times;
-    for count in [times.rising, times.shared, times.equal] {
+    for count in [times.rising, times.shared, times.equal, times.long] {
         assert!(count >= 1_000, "{seen:?}");
     }
 }
@@ -93,4 +103,5 @@ fn hostile_files_are_judged_alike() {
     }
     println!("{seen:?}");
     assert!(seen.times.shared >= 5, "{seen:?}");
+    assert!(seen.times.long >= 40, "{seen:?}");
 }

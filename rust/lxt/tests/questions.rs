@@ -109,6 +109,8 @@ fn generated_files() {
     assert!(seen.count("change", "refused", 21) >= 500);
     // Answers that show which of several entries at one position decides.
     assert!(seen.shared().iter().all(|count| *count >= 500));
+    // Times outside 32 bits, of changes and of questions.
+    assert!(seen.outside().iter().all(|count| *count >= 500));
 }
 
 #[test]
@@ -125,4 +127,6 @@ fn hostile_files() {
     }
     seen.report("hostile");
     assert!(seen.shared().iter().all(|count| *count > 0));
+    let [below, _, asked @ ..] = seen.outside();
+    assert!(below > 0 && asked.iter().all(|count| *count > 0));
 }

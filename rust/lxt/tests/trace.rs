@@ -75,7 +75,7 @@ fn every_question_of_a_trace() {
 
             let root = judged.root(facility).expect("a root") as usize;
             let chain = &judged.chains()[root];
-            let mut times = vec![0, u32::MAX];
+            let mut times = vec![i64::MIN, -1, 0, u32::MAX.into(), i64::MAX];
             for (place, offset) in chain.iter().enumerate().take(6) {
                 let before = trace.change_before(facility, *offset);
                 assert_eq!(before, Ok(chain.get(place + 1).copied()), "{what}");
@@ -89,6 +89,12 @@ fn every_question_of_a_trace() {
                 *seen.entry(sort_of(&value)).or_default() += 1;
                 let clean = if read.clean { "clean" } else { "dirty" };
                 *seen.entry(clean).or_default() += 1;
+                let range = match read.time {
+                    ..0 => "below 0",
+                    0..=0xFFFF_FFFF => "32 bits",
+                    _ => "past 32 bits",
+                };
+                *seen.entry(range).or_default() += 1;
                 times.extend([read.time, read.time.saturating_sub(1)]);
             }
             for time in times {
@@ -111,7 +117,9 @@ fn every_question_of_a_trace() {
         }
     });
     println!("{seen:?}");
-    for sort in ["bits", "real", "text", "not driven", "clean", "dirty"] {
+    let sorts = ["bits", "real", "text", "not driven", "clean", "dirty"];
+    let ranges = ["below 0", "32 bits", "past 32 bits"];
+    for sort in sorts.into_iter().chain(ranges) {
         assert!(seen[sort] >= 200, "{seen:?}");
     }
 }

@@ -3,33 +3,14 @@
 use lxt::{Change, Pair, Reading, Refusal, Trace};
 use lxt_compare::judge::TRACE;
 use lxt_compare::times::small_trace;
+use refused::by_every_call;
 
+mod refused;
 mod tied;
 
 /// Every call refuses the file as 13 and changes nothing.
 fn refused(file: &[u8], what: &str) {
-    let no = Refusal::Times;
-    assert_eq!(lxt::judge(file), Err(no), "{what}");
-    assert_eq!(Trace::open(file).err(), Some(no), "{what}");
-    assert_eq!(lxt::facts(file, 0), Err(no), "{what}");
-    assert_eq!(lxt::root(file, 0), Err(no), "{what}");
-    assert_eq!(lxt::change_before(file, 0, 6), Err(no), "{what}");
-    let mut names = [b'?'; lxt::NAME_ROOM];
-    assert_eq!(lxt::name(file, 0, &mut names), Err(no), "{what}");
-    assert_eq!(names, [b'?'; lxt::NAME_ROOM], "{what}");
-    let mut bits = [b'?'];
-    assert_eq!(lxt::change(file, 0, 6, &mut bits), Err(no), "{what}");
-    assert_eq!(lxt::value_at(file, 0, 5, &mut bits), Err(no), "{what}");
-    assert_eq!(bits, [b'?'], "{what}");
-    // Of a walk the start, and the next call of one that was started over another file.
-    let mut record = Trace::open(&TRACE).and_then(|trace| trace.start_walk(&[true]));
-    let record = record.as_mut().expect("a start");
-    let before = record.clone();
-    assert_eq!(lxt::start_walk(file, &[1], record), Err(no), "{what}");
-    let mut output = [77; 2];
-    let carried = lxt::carry_on(file, record, 1, &mut output);
-    assert_eq!(carried, Err(no), "{what}");
-    assert_eq!((&*record, output), (&before, [77; 2]), "{what}");
+    by_every_call(file, Refusal::Times, what);
 }
 
 fn bits(symbols: &str) -> Reading<'static> {
@@ -65,7 +46,7 @@ fn examples_2_a_to_2_i() {
         let shown = |time| trace.value_at(0, time).map(|value| value.to_string());
         let values = (0..7).map(|time| shown(time).expect("a value"));
         assert_eq!(values.collect::<String>(), answer.values, "{what}");
-        assert_eq!(shown(u32::MAX), shown(6), "{what}");
+        assert_eq!(shown(i64::MAX), shown(6), "{what}");
 
         let changes = [6, 4].map(|offset| Change {
             facility: 0,

@@ -1,4 +1,4 @@
-//! A plain reader of LXT traces, written from the rules of paper 01 and Asks 2 and 6 of paper 02
+//! A plain reader of LXT traces, written from the rules of paper 01 and Asks 1, 2 and 6 of paper 02
 //! alone.
 //!
 //! It exists to be compared, call by call, with another reader. So it follows the paper's order of
@@ -75,7 +75,7 @@ pub struct Summary {
 /// What reading a change answers.
 #[derive(Clone, Copy, Debug, PartialEq, Eq)]
 pub struct Changed {
-    pub time: u32,
+    pub time: i64,
     pub value: Value,
     /// Whether every unused bit of its last data byte is 0; so too where there is none (Ask 6).
     pub clean: bool,

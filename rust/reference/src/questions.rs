@@ -96,7 +96,7 @@ impl<'a> Judged<'a> {
         })
     }
 
-    pub fn value_at(&self, facility: u32, time: u32, bits: &mut [u8]) -> Result<Value, u8> {
+    pub fn value_at(&self, facility: u32, time: i64, bits: &mut [u8]) -> Result<Value, u8> {
         let facility = self.facility(facility)?;
         self.bits_room(facility, bits)?;
         // The chain's first change is that of highest offset.
@@ -166,9 +166,14 @@ impl<'a> Judged<'a> {
     }
 
     /// Position and time of each entry of the times, in the order of the table.
-    pub fn entries(&self) -> Vec<(u32, u32)> {
+    pub fn entries(&self) -> Vec<(u32, i64)> {
         let entries = self.trace.times.iter();
         entries.map(|entry| (entry.position, entry.time)).collect()
+    }
+
+    /// Whether the times are those of tag 09.
+    pub fn has_long_times(&self) -> bool {
+        self.trace.long_times
     }
 
     /// The full list of a walk (paper 01, "The whole walk"): the chain of each root asked for,
@@ -223,7 +228,7 @@ pub fn change(file: &[u8], facility: u32, offset: u32, bits: &mut [u8]) -> Resul
 }
 
 /// The value at a time: that of the change of highest offset with time <= `time`.
-pub fn value_at(file: &[u8], facility: u32, time: u32, bits: &mut [u8]) -> Result<Value, u8> {
+pub fn value_at(file: &[u8], facility: u32, time: i64, bits: &mut [u8]) -> Result<Value, u8> {
     Judged::new(file)?.value_at(facility, time, bits)
 }
 

@@ -19,7 +19,7 @@ const ALIAS: u32 = 8;
 #[derive(Clone, Copy, Debug)]
 pub(crate) struct Entry {
     pub position: u32,
-    pub time: u32,
+    pub time: i64,
 }
 
 /// A file that passed the checks 1 to 14, with its tables read out.
@@ -42,6 +42,8 @@ pub(crate) struct Trace<'a> {
     pub sync: Vec<u32>,
     /// In the order of the table: positions never fall, and times never fall.
     pub times: Vec<Entry>,
+    /// Whether the times are those of tag 09.
+    pub long_times: bool,
     /// Byte i, lowest first, of every real is data byte `real_order[i]`. All 0 where no root is of
     /// kind real.
     pub real_order: [usize; 8],
@@ -60,7 +62,7 @@ impl Trace<'_> {
     /// The time of a change at `offset`: that of the last entry with position <= offset, so of
     /// several at one position the last in the table; or of entry 0 itself where none is, whatever
     /// entries share its position.
-    pub fn time(&self, offset: u32) -> u32 {
+    pub fn time(&self, offset: u32) -> i64 {
         // Positions never fall, so these entries are the first of the table.
         let not_later = self.times.partition_point(|entry| entry.position <= offset);
         self.times[not_later.max(1) - 1].time
@@ -72,7 +74,8 @@ pub(crate) fn read_tables(file: &[u8]) -> Result<Trace<'_>, u8> {
     check_frame(file)?;
     let list = read_section_list(file)?;
     check_counting_tags(&list)?;
-    let (n, m) = check_bounds(file, &list)?;
+    let table = list.times();
+    let (n, m) = check_bounds(file, &list, table)?;
     if n > MOST_FACILITIES {
         return Err(9);
     }
@@ -84,7 +87,7 @@ pub(crate) fn read_tables(file: &[u8]) -> Result<Trace<'_>, u8> {
         .map(|facility| word(file, list.start(0x02) + 4 * facility))
         .collect();
     let any_change = (0..n).any(|facility| roots[facility] == facility && sync[facility] != 0);
-    let times = read_times(file, list.end, list.start(0x06), m as usize, any_change)?;
+    let times = read_times(file, list.end, table, m as usize, any_change)?;
     let facts = root_facts(&geometry, &roots);
     let any_real = facts.iter().any(|facts| facts.kind == Kind::Real);
     let real_order = if any_real {
@@ -103,6 +106,7 @@ pub(crate) fn read_tables(file: &[u8]) -> Result<Trace<'_>, u8> {
         facts,
         sync,
         times,
+        long_times: table.time_bytes == 8,
         real_order,
     })
 }
@@ -110,6 +114,13 @@ pub(crate) fn read_tables(file: &[u8]) -> Result<Trace<'_>, u8> {
 /// The 4-byte number at `at`.
 fn word(file: &[u8], at: usize) -> u32 {
     u32::from_be_bytes([file[at], file[at + 1], file[at + 2], file[at + 3]])
+}
+
+/// The signed 8-byte number at `at`.
+fn signed_8(file: &[u8], at: usize) -> i64 {
+    let mut bytes = [0; 8];
+    bytes.copy_from_slice(&file[at..at + 8]);
+    i64::from_be_bytes(bytes)
 }
 
 /// 1: the length. 2: the first bytes and the version, 0 to 4. 3: the last byte.
@@ -143,6 +154,48 @@ impl SectionList {
     fn start(&self, tag: u8) -> usize {
         self.value(tag) as usize
     }
+
+    /// The one times section that is present, by 6 and 7.
+    fn times(&self) -> TimeTable {
+        match self.value(0x06) {
+            0 => TimeTable {
+                start: self.value(0x09),
+                time_bytes: 8,
+            },
+            start => TimeTable {
+                start,
+                time_bytes: 4,
+            },
+        }
+    }
+}
+
+/// Where a times section starts and how many bytes a time has in it: 4 without sign in 06, 8 with sign
+/// in 09 (Ask 1). Its body is the count m, first, last, m position deltas of 4 bytes, m time deltas.
+#[derive(Clone, Copy)]
+struct TimeTable {
+    start: u32,
+    time_bytes: usize,
+}
+
+impl TimeTable {
+    /// The length of count, first and last.
+    fn head(&self) -> usize {
+        4 + 2 * self.time_bytes
+    }
+
+    /// The length of the body with m entries.
+    fn length(&self, m: u32) -> u64 {
+        self.head() as u64 + u64::from(m) * (4 + self.time_bytes as u64)
+    }
+
+    /// The time, or the delta of a time, at `at`.
+    fn time(&self, file: &[u8], at: usize) -> i128 {
+        match self.time_bytes {
+            4 => i128::from(word(file, at)),
+            _ => i128::from(signed_8(file, at)),
+        }
+    }
 }
 
 /// 4: before END, a tag or its value would start below offset 4.
@@ -167,18 +220,20 @@ fn read_section_list(file: &[u8]) -> Result<SectionList, u8> {
     }
 }
 
-/// 5: compressed data. 6: 64-bit times. 7: a section that must be there is absent.
+/// 5: compressed data. 6: times of both kinds. 7: a section that must be there is absent, or times of
+/// either kind are.
 fn check_counting_tags(list: &SectionList) -> Result<(), u8> {
     if (0x0A..=0x12).any(|tag| list.value(tag) != 0) {
         return Err(5);
     }
-    if list.value(0x09) != 0 {
+    let present = |tag| list.value(tag) != 0;
+    if present(0x06) && present(0x09) {
         return Err(6);
     }
-    if [0x01, 0x02, 0x03, 0x04, 0x06]
-        .into_iter()
-        .any(|tag| list.value(tag) == 0)
-    {
+    if ![0x01, 0x02, 0x03, 0x04].into_iter().all(present) {
+        return Err(7);
+    }
+    if !present(0x06) && !present(0x09) {
         return Err(7);
     }
     Ok(())
@@ -190,21 +245,22 @@ fn lies_within(start: u32, length: u64, end: usize) -> bool {
 }
 
 /// 8: starts and bodies, and C. Gives the count n of the names and the count m of the times.
-fn check_bounds(file: &[u8], list: &SectionList) -> Result<(u32, u32), u8> {
+fn check_bounds(file: &[u8], list: &SectionList, times: TimeTable) -> Result<(u32, u32), u8> {
     let end = list.end;
     let changes = list.start(0x01);
     if changes < 4 || changes > end {
         return Err(8);
     }
     // A head is tested before its count is read.
-    if !lies_within(list.value(0x03), 8, end) || !lies_within(list.value(0x06), 12, end) {
+    if !lies_within(list.value(0x03), 8, end) || !lies_within(times.start, times.head() as u64, end)
+    {
         return Err(8);
     }
     let n = word(file, list.start(0x03));
-    let m = word(file, list.start(0x06));
+    let m = word(file, times.start as usize);
     if !lies_within(list.value(0x02), 4 * u64::from(n), end)
         || !lies_within(list.value(0x04), 16 * u64::from(n), end)
-        || !lies_within(list.value(0x06), 12 + 8 * u64::from(m), end)
+        || !lies_within(times.start, times.length(m), end)
     {
         return Err(8);
     }
@@ -348,27 +404,34 @@ fn root_facts(geometry: &[Geometry], roots: &[usize]) -> Vec<Facts> {
 }
 
 /// 13: the time rules. Positions and times are running sums of the deltas, as plain numbers. Every
-/// delta may be 0 but that of the first position (Ask 2). Each entry is tested, also one that decides
-/// the time of no change.
+/// delta may be 0 but that of the first position (Ask 2). No time delta after the first is negative, and
+/// no time leaves the range of 64 signed bits (Ask 1). Each entry is tested, also one that decides the
+/// time of no change.
 fn read_times(
     file: &[u8],
     end: usize,
-    start: usize,
+    table: TimeTable,
     m: usize,
     any_change: bool,
 ) -> Result<Vec<Entry>, u8> {
     if any_change && m == 0 {
         return Err(13);
     }
-    let first = u64::from(word(file, start + 4));
-    let last = u64::from(word(file, start + 8));
+    let start = table.start as usize;
+    let first = table.time(file, start + 4);
+    let last = table.time(file, start + 4 + table.time_bytes);
+    let positions = start + table.head();
+    let times = positions + 4 * m;
     let mut entries = Vec::with_capacity(m);
     let mut position: u64 = 0;
-    let mut time: u64 = 0;
+    let mut time: i128 = 0;
     for number in 0..m {
-        let position_delta = u64::from(word(file, start + 12 + 4 * number));
-        let time_delta = u64::from(word(file, start + 12 + 4 * m + 4 * number));
-        position += position_delta;
+        let time_delta = table.time(file, times + table.time_bytes * number);
+        // The first delta is the first time itself.
+        if number > 0 && time_delta < 0 {
+            return Err(13);
+        }
+        position += u64::from(word(file, positions + 4 * number));
         time += time_delta;
         // Positions never fall, so a position below 4 is the first one or follows such a one.
         if position < 4 || position >= end as u64 || time < first || time > last {
@@ -376,7 +439,7 @@ fn read_times(
         }
         entries.push(Entry {
             position: position as u32,
-            time: time as u32,
+            time: i64::try_from(time).map_err(|_| 13)?,
         });
     }
     Ok(entries)

@@ -1,5 +1,7 @@
 //! The small trace of paper 01, P1 to P12, and the sentences of the readings, each in a small file.
 
+mod wide_times;
+
 use crate::*;
 
 /// The 95-byte trace of paper 01.
@@ -24,6 +26,20 @@ fn small_trace_with(first: u32, positions: &[u32], times: &[u32]) -> Vec<u8> {
         file.push(tag);
     }
     file.push(0xB4);
+    file
+}
+
+/// The same with times of tag 09 (Ask 1): first, last, position deltas and time deltas.
+fn small_trace_09(first: i64, last: i64, positions: &[u32], times: &[i64]) -> Vec<u8> {
+    let mut file = small_trace()[..0x28].to_vec();
+    file.extend((positions.len() as u32).to_be_bytes());
+    file.extend([first, last].map(i64::to_be_bytes).concat());
+    file.extend(positions.iter().flat_map(|delta| delta.to_be_bytes()));
+    file.extend(times.iter().flat_map(|delta| delta.to_be_bytes()));
+    // END, the items, B4; the tag of the times is the last but one byte.
+    file.extend(&small_trace()[0x44..]);
+    let tag = file.len() - 2;
+    file[tag] = 0x09;
     file
 }
 
@@ -65,10 +81,12 @@ struct Plan {
     changes: Vec<u8>,
     facilities: Vec<PlannedFacility>,
     memory: u32,
-    first: u32,
-    last: u32,
+    /// The tag of the times: 06, whose times have 4 bytes, or 09 with 8.
+    times_tag: u8,
+    first: i64,
+    last: i64,
     positions: Vec<u32>,
-    times: Vec<u32>,
+    times: Vec<i64>,
     timescale: Option<u8>,
     initial: Option<u8>,
     real_test: Option<[u8; 8]>,
@@ -97,6 +115,7 @@ fn plan(changes: &[u8], facilities: &[PlannedFacility]) -> Plan {
         changes: changes.to_vec(),
         facilities: facilities.to_vec(),
         memory: 1_000_000,
+        times_tag: 0x06,
         first: 0,
         last: 100,
         positions: vec![4],
@@ -144,13 +163,13 @@ impl Plan {
         }
 
         let times = file.len() as u32;
-        items.push((0x06, times));
-        for word in [self.positions.len() as u32, self.first, self.last] {
-            file.extend(word.to_be_bytes());
+        items.push((self.times_tag, times));
+        file.extend((self.positions.len() as u32).to_be_bytes());
+        file.extend(self.time_bytes(&[self.first, self.last]));
+        for delta in &self.positions {
+            file.extend(delta.to_be_bytes());
         }
-        for word in self.positions.iter().chain(&self.times) {
-            file.extend(word.to_be_bytes());
-        }
+        file.extend(self.time_bytes(&self.times));
 
         if let Some(timescale) = self.timescale {
             items.push((0x05, file.len() as u32));
@@ -182,6 +201,18 @@ impl Plan {
             sync,
             times,
         }
+    }
+
+    /// Times as the table has them.
+    fn time_bytes(&self, times: &[i64]) -> Vec<u8> {
+        let mut bytes = Vec::new();
+        for time in times {
+            match self.times_tag {
+                0x06 => bytes.extend(u32::try_from(*time).expect("32 bits").to_be_bytes()),
+                _ => bytes.extend(time.to_be_bytes()),
+            }
+        }
+        bytes
     }
 
     fn file(&self) -> Vec<u8> {
@@ -242,7 +273,7 @@ fn clean_at_10(value: Value) -> Result<Changed, u8> {
     })
 }
 
-fn symbol_at(file: &[u8], time: u32) -> u8 {
+fn symbol_at(file: &[u8], time: i64) -> u8 {
     let mut bits = [b'?'];
     assert_eq!(
         value_at(file, 0, time, &mut bits),
@@ -313,7 +344,7 @@ fn p3_values_at_times() {
     assert_eq!(symbol_at(&file, 0), b'1');
     assert_eq!(symbol_at(&file, 4), b'1');
     assert_eq!(symbol_at(&file, 5), b'0');
-    assert_eq!(symbol_at(&file, u32::MAX), b'0');
+    assert_eq!(symbol_at(&file, u32::MAX.into()), b'0');
 }
 
 #[test]
@@ -552,24 +583,17 @@ fn of_a_tag_met_twice_the_one_nearer_end_counts() {
 }
 
 #[test]
-fn compressed_data_and_64_bit_times() {
-    for tag in 0x09..=0x12 {
-        let number = if tag == 0x09 { 6 } else { 5 };
+fn compressed_data() {
+    for tag in 0x0A..=0x12 {
         let mut made = plan(&[], &[]);
         made.nearer_b4 = vec![(tag, 1)];
-        assert_eq!(refused(made.judge()), number);
+        assert_eq!(refused(made.judge()), 5);
         // A nearer 0 takes it back.
         made.nearer_end = vec![(tag, 0)];
         assert!(made.judge().is_ok());
         made.nearer_end = vec![(tag, 0x8000_0000)];
-        assert_eq!(refused(made.judge()), number);
+        assert_eq!(refused(made.judge()), 5);
     }
-    // 5 before 6 before 7.
-    let mut made = plan(&[], &[]);
-    made.nearer_end = vec![(0x01, 0), (0x09, 1)];
-    assert_eq!(refused(made.judge()), 6);
-    made.nearer_end.push((0x12, 1));
-    assert_eq!(refused(made.judge()), 5);
 }
 
 #[test]
@@ -739,7 +763,7 @@ fn timescale_and_initial_value() {
         made.initial = Some(byte);
         assert_eq!(made.judge().map(|summary| summary.initial), Ok(code));
         let mut bits = [b'?'; 3];
-        let value = value_at(&made.file(), 0, u32::MAX, &mut bits);
+        let value = value_at(&made.file(), 0, i64::MAX, &mut bits);
         assert_eq!(value, Ok(Value::Bits { width: 2 }));
         let symbol = SYMBOLS[usize::from(code)];
         assert_eq!(bits, [symbol, symbol, b'?']);
@@ -1024,7 +1048,7 @@ fn without_entries_first_and_last_are_free() {
 #[test]
 fn time_rules() {
     let base = plan(&[0x03, 0x02], &[facility("a", 0, 0, 0, 4)]);
-    let answer = |positions: &[u32], times: &[u32], first, last| {
+    let answer = |positions: &[u32], times: &[i64], first, last| {
         let mut made = base.clone();
         made.positions = positions.to_vec();
         made.times = times.to_vec();
@@ -1044,7 +1068,8 @@ fn time_rules() {
     assert_eq!(answer(&[4], &[7], 8, 8), Err(13));
     assert_eq!(answer(&[4], &[7], 6, 6), Err(13));
     assert_eq!(answer(&[4, 1], &[7, 1], 7, 7), Err(13));
-    assert_eq!(answer(&[4], &[u32::MAX], 0x8000_0000, u32::MAX), Ok(()));
+    let most = u32::MAX.into();
+    assert_eq!(answer(&[4], &[most], 0x8000_0000, most), Ok(()));
     // every position below T
     let end = base.make().end;
     assert_eq!(answer(&[end - 1], &[0], 0, 0), Ok(()));
@@ -1147,7 +1172,7 @@ fn examples_2_a_to_2_i() {
         assert_eq!(printed, lines, "2-{letter}");
         let shown = [0, 1, 2, 3, 4, 5, 6].map(|time| symbol_at(&file, time));
         assert_eq!(shown, *symbols, "2-{letter}");
-        assert_eq!(symbol_at(&file, u32::MAX), symbols[6], "2-{letter}");
+        assert_eq!(symbol_at(&file, i64::MAX), symbols[6], "2-{letter}");
         let end = judge(&file).map(|summary| summary.end);
         assert_eq!(end, Ok(52 + 8 * positions.len() as u32), "2-{letter}");
         let list = vec![(0, 6), (0, 4)];
@@ -1157,7 +1182,7 @@ fn examples_2_a_to_2_i() {
 }
 
 /// Changes at 4, 6, 8 and 10: 0, 1, Z and X.
-fn four_changes(positions: &[u32], times: &[u32]) -> Plan {
+fn four_changes(positions: &[u32], times: &[i64]) -> Plan {
     let mut made = plan(
         &[0x03, 0x02, 0x04, 0x00, 0x05, 0x00, 0x06, 0x00],
         &[facility("a", 0, 0, 0, 10)],
@@ -1170,7 +1195,7 @@ fn four_changes(positions: &[u32], times: &[u32]) -> Plan {
 
 #[test]
 fn of_equal_positions_the_last_decides_from_there_on() {
-    let times = |positions: &[u32], times: &[u32]| {
+    let times = |positions: &[u32], times: &[i64]| {
         let file = four_changes(positions, times).file();
         [4, 6, 8, 10].map(|offset| change(&file, 0, offset, &mut [0]).map(|read| read.time))
     };
@@ -1197,7 +1222,8 @@ fn of_equal_positions_the_last_decides_from_there_on() {
     );
 }
 
-/// Every table of three entries at 4 to 11 with the times 0 to 2, against the words of the rule.
+/// Every table of three entries at 4 to 11 with three different times, against the words of the rule:
+/// tag 06 with the times 0 to 2, and tag 09 with these, around 0 and at both ends of the range.
 #[test]
 fn all_small_tables() {
     let mut tables = 0;
@@ -1210,41 +1236,60 @@ fn all_small_tables() {
         }
         lists
     };
-    let deltas = |list: [u32; 3]| [list[0], list[1] - list[0], list[2] - list[1]];
-    for positions in rising(4, 11) {
-        for times in rising(0, 2) {
-            let file = four_changes(&deltas(positions), &deltas(times)).file();
-            let judged = Judged::new(&file).expect("an accepted file");
-            let time = |offset: u32| {
-                let last = (0..3).rev().find(|entry| positions[*entry] <= offset);
-                times[last.unwrap_or(0)]
-            };
-            for offset in [4, 6, 8, 10] {
-                let read = judged.change(0, offset, &mut [0]).expect("a change");
-                assert_eq!(read.time, time(offset), "{positions:?} {times:?}");
+    let kinds = [
+        (0x06, 0),
+        (0x09, 0),
+        (0x09, -1),
+        (0x09, i64::MIN),
+        (0x09, i64::MAX - 2),
+    ];
+    for (tag, lowest) in kinds {
+        for positions in rising(4, 11) {
+            for times in rising(0, 2) {
+                let times = times.map(|time| lowest + i64::from(time));
+                small_table(tag, lowest, positions, times);
+                tables += 1;
             }
-            for at in 0..=3 {
-                let symbol = match [10, 8, 6, 4].iter().find(|offset| time(**offset) <= at) {
-                    Some(10) => b'X',
-                    Some(8) => b'Z',
-                    Some(6) => b'1',
-                    Some(_) => b'0',
-                    None => b'-',
-                };
-                let mut bits = [b'?'];
-                judged.value_at(0, at, &mut bits).expect("a value");
-                assert_eq!(bits, [symbol], "{positions:?} {times:?} {at}");
-            }
-            tables += 1;
         }
     }
-    assert_eq!(tables, 1_200);
+    assert_eq!(tables, 5 * 1_200);
+}
+
+fn small_table(tag: u8, lowest: i64, positions: [u32; 3], times: [i64; 3]) {
+    let [one, two, three] = positions;
+    let [first, second, third] = times;
+    let deltas = [first, second - first, third - second];
+    let mut made = four_changes(&[one, two - one, three - two], &deltas);
+    (made.times_tag, made.first, made.last) = (tag, lowest, lowest + 2);
+    let file = made.file();
+    let judged = Judged::new(&file).expect("an accepted file");
+    let time = |offset: u32| {
+        let last = (0..3).rev().find(|entry| positions[*entry] <= offset);
+        times[last.unwrap_or(0)]
+    };
+    for offset in [4, 6, 8, 10] {
+        let read = judged.change(0, offset, &mut [0]).expect("a change");
+        assert_eq!(read.time, time(offset), "{positions:?} {times:?}");
+    }
+    let around = [-1, 0, 1, 2, 3].map(|more| lowest.saturating_add(more));
+    for at in around.into_iter().chain([i64::MIN, i64::MAX]) {
+        let symbol = match [10, 8, 6, 4].iter().find(|offset| time(**offset) <= at) {
+            Some(10) => b'X',
+            Some(8) => b'Z',
+            Some(6) => b'1',
+            Some(_) => b'0',
+            None => b'-',
+        };
+        let mut bits = [b'?'];
+        judged.value_at(0, at, &mut bits).expect("a value");
+        assert_eq!(bits, [symbol], "{positions:?} {times:?} {at}");
+    }
 }
 
 /// What stays refused beside zero deltas, and each neighbour that is accepted.
 #[test]
 fn time_rules_beside_zero_deltas() {
-    let answer = |positions: &[u32], times: &[u32], first, last| {
+    let answer = |positions: &[u32], times: &[i64], first, last| {
         let mut made = four_changes(positions, times);
         (made.first, made.last) = (first, last);
         made.judge().map(|_| ())
@@ -1270,11 +1315,12 @@ fn time_rules_beside_zero_deltas() {
     assert_eq!(answer(&[4, 0, 3], &[7, 0, 0], 7, 7), Ok(()));
     assert_eq!(answer(&[4, 0, 3], &[7, 0, 0], 8, 8), Err(13));
     assert_eq!(answer(&[4, 0, 3], &[7, 0, 0], 6, 6), Err(13));
-    let most = u32::MAX;
+    let most = i64::from(u32::MAX);
     assert_eq!(answer(&[4, 0, 0], &[most, 0, 0], most, most), Ok(()));
     // Sums past 2^32 behind zeros: they never wrap.
     assert_eq!(answer(&[4, 0, 0], &[most, 0, 1], 0, most), Err(13));
     assert_eq!(answer(&[4, 0, 0], &[5, 0, most], 0, most), Err(13));
+    let most = u32::MAX;
     assert_eq!(answer(&[6, 0, most], &[0, 0, 0], 0, 9), Err(13));
     assert_eq!(answer(&[6, most, 0, 0], &[0, 0, 0, 0], 0, 9), Err(13));
     // Positions below T: the last of three entries is at T - 1, at T, or stays at T.

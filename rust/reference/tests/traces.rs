@@ -122,3 +122,46 @@ fn large_traces_are_accepted() {
         assert_eq!(list.len(), changes);
     }
 }
+
+/// The traces with tables of tag 09: their entries as their bytes have them, and changes of the times.
+#[test]
+fn traces_with_64_bit_times() {
+    let positions = [4].into_iter().chain((14..=109).step_by(5));
+    let times = (0..=20).map(|step| step * 1_000_000_000);
+    let even = Vec::from_iter(positions.zip(times));
+    let steps = [
+        (4, 0),
+        (17, 10),
+        (31, 19),
+        (33, 23),
+        (38, 31),
+        (41, 43),
+        (51, 45),
+        (54, 52),
+    ];
+    let steps = steps.map(|(position, more)| (position, 4_294_967_000 + more));
+    for (name, entries, changes) in [
+        (
+            "longtime64.vcd2lxt-plain.unz.lxt",
+            even,
+            [(0, 111, 20_000_000_000), (1, 4, 0), (2, 54, 9_000_000_000)],
+        ),
+        (
+            "lxtgen_t64_2.lxt",
+            steps.to_vec(),
+            [
+                (0, 54, 4_294_967_052),
+                (1, 27, 4_294_967_010),
+                (1, 4, 4_294_967_000),
+            ],
+        ),
+    ] {
+        let file = fs::read(folder().join(name)).expect("a trace");
+        let judged = lxt_reference::Judged::new(&file).expect("an accepted trace");
+        assert_eq!(judged.entries(), entries, "{name}");
+        for (facility, offset, time) in changes {
+            let read = judged.change(facility, offset, &mut [0; 32]);
+            assert_eq!(read.map(|it| it.time), Ok(time), "{name}");
+        }
+    }
+}

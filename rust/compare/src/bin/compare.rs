@@ -50,16 +50,17 @@ fn main() {
     for (call, [clean, dirty]) in padding {
         println!("{call:>13}  padding clean {clean}, dirty {dirty}");
     }
-    let zero_deltas = compared.zero_deltas();
-    for (what, count) in zero_deltas {
+    let times = compared.zero_deltas().into_iter();
+    let times = Vec::from_iter(times.chain(compared.long_times()));
+    for (what, count) in &times {
         println!("{count:>13}  {what}");
     }
-    // So many files have all of it; else the run says nothing about padding or zero deltas.
+    // So many files have all of it; else the run says nothing about padding or such times.
     let mut missing = Vec::new();
     if padding.iter().any(|(_, counts)| counts.contains(&0)) {
         missing.push("clean and dirty padding");
     }
-    let unmet = zero_deltas.iter().filter(|(_, count)| *count == 0);
+    let unmet = times.iter().filter(|(_, count)| *count == 0);
     missing.extend(unmet.map(|(what, _)| *what));
     if compared.files >= 1_000 && !missing.is_empty() {
         eprintln!("did not occur: {}", missing.join(", "));

@@ -36,8 +36,9 @@ fn all_calls(file: &[u8]) -> u64 {
         for offset in some.into_iter().flatten() {
             let _ = lxt::change_before(&file, facility, *offset);
             for room in [width.saturating_sub(1), width] {
-                let _ = lxt::change(&file, facility, *offset, &mut exact(0, room));
-                let _ = lxt::value_at(&file, facility, *offset, &mut exact(0, room));
+                let read = lxt::change(&file, facility, *offset, &mut exact(0, room));
+                let time = read.map_or(i64::MIN, |read| read.time);
+                let _ = lxt::value_at(&file, facility, time, &mut exact(0, room));
                 calls += 2;
             }
             calls += 1;

@@ -123,6 +123,7 @@ struct Lent {
     value: Guarded<Value>,
     handed: Guarded<Handed>,
     one: Guarded<u32>,
+    time: Guarded<i64>,
     clean: Guarded<u32>,
     msb: Guarded<i32>,
     lsb: Guarded<i32>,
@@ -142,6 +143,7 @@ impl Lent {
             value: Guarded::new(1),
             handed: Guarded::new(1),
             one: Guarded::new(1),
+            time: Guarded::new(1),
             clean: Guarded::new(1),
             msb: Guarded::new(1),
             lsb: Guarded::new(1),
@@ -151,6 +153,7 @@ impl Lent {
 }
 
 const MARK: u32 = 0xAAAA_AAAA;
+const TIME: i64 = -0x5555_5555_5555_5555;
 
 const SUMMARY: Summary = Summary {
     facilities: MARK,
@@ -253,23 +256,25 @@ fn all_calls(file: &[u8], lent: &mut Lent, place: Place) -> u64 {
 
             for room in [width.saturating_sub(1), width] {
                 let marked = vec![0xA5; room];
-                let one = &mut lent.one.lend(&[MARK], place)[0];
+                let time = &mut lent.time.lend(&[TIME], place)[0];
                 let answer = &mut lent.value.lend(&[VALUE], place)[0];
                 let clean = &mut lent.clean.lend(&[MARK], place)[0];
                 let bits = lent.bytes.lend(&marked, place);
-                let number = super::change(file, facility, offset, bits, one, answer, clean);
+                let number = super::change(file, facility, offset, bits, time, answer, clean);
                 let mut room = marked.clone();
                 let expected = judged.and_then(|it| it.change(facility, offset, &mut room));
                 let expected = expected.map(|it| (it.time, numbers(it.value), it.clean.into()));
-                let marks = (MARK, VALUE, MARK);
-                assert_eq!((number, (*one, *answer, *clean)), after(expected, marks));
+                let marks = (TIME, VALUE, MARK);
+                assert_eq!((number, (*time, *answer, *clean)), after(expected, marks));
                 assert_eq!(bits, room);
 
+                // At the change's time, or at the mark, which lies below most.
+                let time = *time;
                 let answer = &mut lent.value.lend(&[VALUE], place)[0];
                 let bits = lent.bytes.lend(&marked, place);
-                let number = super::value_at(file, facility, offset, bits, answer);
+                let number = super::value_at(file, facility, time, bits, answer);
                 let mut room = marked;
-                let expected = judged.and_then(|it| it.value_at(facility, offset, &mut room));
+                let expected = judged.and_then(|it| it.value_at(facility, time, &mut room));
                 assert_eq!((number, *answer), after(expected.map(numbers), VALUE));
                 assert_eq!(bits, room);
                 calls += 3;

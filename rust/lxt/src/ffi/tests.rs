@@ -26,7 +26,8 @@ fn rust_type(words: &str) -> String {
         _ => {
             let number = words.strip_suffix("_t").expect("a number's type");
             let number = number.replace("uint", "u").replace("int", "i");
-            assert!(["u8", "u32", "u64", "i8", "i32"].contains(&&*number));
+            let numbers = ["u8", "u32", "u64", "i8", "i32", "i64"];
+            assert!(numbers.contains(&&*number));
             number
         }
     }
@@ -113,11 +114,13 @@ fn all_answers(file: &[u8], bits: &mut [u8], pairs: &mut [Pair], output: &mut [u
         answers += &format!("{number} {one} {bits:?}, ");
         let number = super::change_before(file, facility, 6, &mut one);
         answers += &format!("{number} {one}, ");
-        let (mut three, mut clean) = (VALUE, 78);
-        let number = super::change(file, facility, 6, bits, &mut one, &mut three, &mut clean);
-        answers += &format!("{number} {one} {three:?} {clean} {bits:?}, ");
-        let number = super::value_at(file, facility, 100, bits, &mut three);
-        answers += &format!("{number} {three:?} {bits:?}, ");
+        let (mut time, mut three, mut clean) = (-77, VALUE, 78);
+        let number = super::change(file, facility, 6, bits, &mut time, &mut three, &mut clean);
+        answers += &format!("{number} {time} {three:?} {clean} {bits:?}, ");
+        for time in [i64::MIN, 100, i64::MAX] {
+            let number = super::value_at(file, facility, time, bits, &mut three);
+            answers += &format!("{number} {three:?} {bits:?}, ");
+        }
     }
     let number = super::start_walk(file, &asked, pairs);
     answers += &format!("{number} {pairs:?}, ");
@@ -282,6 +285,7 @@ fn calls_run_on_a_thread_with_128_kib_of_stack() {
         facilities: 4_096,
         width: 8,
         entries: 100,
+        times_tag: lxt_generate::LONG_TIMES,
     };
     files.push((lxt_generate::large(&shape), 4_096));
     let run = move || {
@@ -368,20 +372,20 @@ fn structs_are_written_whole_and_nothing_around_them() {
 
     let mut room = [9; 4_096];
     let read = judged.change(0, newest, &mut room).expect("a change");
-    let (mut one, mut three, mut bits) = (framed(77), framed(VALUE), framed([9; 4_096]));
+    let (mut time, mut three, mut bits) = (framed(-77), framed(VALUE), framed([9; 4_096]));
     let mut clean = framed(78);
     let (lent, answer) = (&mut bits.lent, (&mut three.lent, &mut clean.lent));
-    let number = super::change(file, 0, newest, lent, &mut one.lent, answer.0, answer.1);
-    assert_eq!((number, one.unframed()), (0, read.time));
+    let number = super::change(file, 0, newest, lent, &mut time.lent, answer.0, answer.1);
+    assert_eq!((number, time.unframed()), (0, read.time));
     assert_eq!(three.unframed(), numbers(read.value));
     assert_eq!(
         (clean.unframed(), bits.unframed()),
         (read.clean.into(), room)
     );
     let (mut three, mut bits) = (framed(VALUE), framed([9; 4_096]));
-    let number = super::value_at(file, 0, u32::MAX, &mut bits.lent, &mut three.lent);
+    let number = super::value_at(file, 0, i64::MAX, &mut bits.lent, &mut three.lent);
     let mut room = [9; 4_096];
-    let value = judged.value_at(0, u32::MAX, &mut room).expect("a value");
+    let value = judged.value_at(0, i64::MAX, &mut room).expect("a value");
     assert_eq!(number, 0);
     assert_eq!((three.unframed(), bits.unframed()), (numbers(value), room));
 
@@ -545,15 +549,20 @@ fn one_number_is_written_or_stays() {
 
 #[test]
 fn a_value_is_written_or_stays() {
-    questions(|file, judged, facility, time, room| {
+    questions(|file, judged, facility, offset, room| {
         let judged = judged.as_ref().map_err(|number| *number);
-        let mut bits = vec![0xA5; room];
-        let mut answer = VALUE;
-        let number = super::value_at(file, facility, time, &mut bits, &mut answer);
-        let mut expected_bits = vec![0xA5; room];
-        let expected = judged.and_then(|it| it.value_at(facility, time, &mut expected_bits));
-        assert_eq!((number, answer), after(expected.map(numbers), VALUE));
-        assert_eq!(bits, expected_bits);
+        // The time of a change, or one that is any number.
+        let read = judged.and_then(|it| it.change(facility, offset, &mut [0; 4_096]));
+        let any = i64::from(offset);
+        for time in [read.map_or(any, |it| it.time), -any, i64::MIN, i64::MAX] {
+            let mut bits = vec![0xA5; room];
+            let mut answer = VALUE;
+            let number = super::value_at(file, facility, time, &mut bits, &mut answer);
+            let mut expected_bits = vec![0xA5; room];
+            let expected = judged.and_then(|it| it.value_at(facility, time, &mut expected_bits));
+            assert_eq!((number, answer), after(expected.map(numbers), VALUE));
+            assert_eq!(bits, expected_bits);
+        }
     });
 }
 
@@ -572,8 +581,9 @@ fn facts_are_written_or_stay() {
 
 #[test]
 fn a_change_is_written_or_stays() {
-    const MARKS: (u32, c::Value, u32) = (0xAAAA_AAAA, VALUE, 0xDDDD_DDDD);
+    const MARKS: (i64, c::Value, u32) = (-0x5555_5555_5555_5555, VALUE, 0xDDDD_DDDD);
     let mut seen = BTreeMap::new();
+    let mut outside = [0; 2];
     questions(|file, judged, facility, offset, room| {
         let judged = judged.as_ref().map_err(|number| *number);
         let mut bits = vec![0xA5; room];
@@ -586,7 +596,13 @@ fn a_change_is_written_or_stays() {
         assert_eq!((number, (time, answer, clean)), after(expected, MARKS));
         assert_eq!(bits, expected_bits);
         *seen.entry((number, clean)).or_insert(0) += 1;
+        if number == 0 {
+            outside[0] += u32::from(time < 0);
+            outside[1] += u32::from(time > 0xFFFF_FFFF);
+        }
     });
+    // Times whose higher half is written too.
+    assert!(outside.iter().all(|count| *count >= 50), "{outside:?}");
     // Clean and dirty changes, and the mark after each refusal that the call can give; 9 takes a large file.
     println!("{seen:?}");
     let refusals = (1..=19).chain([21]).filter(|number| *number != 9);

@@ -4,7 +4,7 @@
 pub const RUBBISH: [(usize, u8); 3] = [(6, 0x10), (9, 0x01), (13, 0x0F)];
 
 /// A change: root, offset, time, symbols, and whether its padding is clean.
-pub type Answer = (u32, u32, u32, &'static str, bool);
+pub type Answer = (u32, u32, i64, &'static str, bool);
 
 /// The changes in the order of the walk.
 pub const CHANGES: [Answer; 6] = [

@@ -14,8 +14,8 @@ pub struct Example {
 
 pub struct Answer {
     /// The times of the change at 6, which is to 0, and of the change at 4, which is to 1.
-    pub newer: u32,
-    pub older: u32,
+    pub newer: i64,
+    pub older: i64,
     /// The values at the times 0 to 6; that of the last holds for good.
     pub values: &'static str,
 }
@@ -24,7 +24,7 @@ const fn accepted(
     letter: char,
     positions: &'static [u32],
     times: &'static [u32],
-    (newer, older): (u32, u32),
+    (newer, older): (i64, i64),
     values: &'static str,
 ) -> Example {
     let answer = Some(Answer {

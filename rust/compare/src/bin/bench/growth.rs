@@ -5,7 +5,7 @@ use std::hint::black_box;
 use crate::ratios::Input;
 use crate::timing::{alone, grouped, shown, used};
 use lxt::Pair;
-use lxt_generate::{large, Large};
+use lxt_generate::{large, Large, SHORT_TIMES};
 
 fn row(series: &str, shape: &Large) {
     let input = Input::new(series, large(shape));
@@ -13,7 +13,7 @@ fn row(series: &str, shape: &Large) {
     let (n, changes) = (input.facilities, input.changes);
     let judging = alone(|| used(lxt::judge(black_box(file))));
     let mut bits = vec![0; 4_096];
-    let value = alone(|| used(lxt::value_at(file, 0, u32::MAX / 2, &mut bits)));
+    let value = alone(|| used(lxt::value_at(file, 0, i64::MAX, &mut bits)));
     let asked = vec![1; n];
     let mut pairs = vec![Pair::default(); n];
     let mut output = vec![1; 2 * changes];
@@ -50,6 +50,7 @@ pub fn print() {
         facilities: 122,
         width: 8,
         entries: 1_000,
+        times_tag: SHORT_TIMES,
     };
     for bytes in [1 << 20, 2 << 20, 4 << 20, 8 << 20, 16 << 20] {
         row("N", &Large { bytes, ..shape });

@@ -1,11 +1,11 @@
-//! Judging, values, walks and names: the proved functions against the independent reader.
+//! Judging, values, changes, walks and names: the proved functions against the independent reader.
 
 use std::cell::RefCell;
 use std::hint::black_box;
 
 use crate::timing::{grouped, medians, seconds, shown, used};
 use lxt::Pair;
-use lxt_generate::{large, Large, Random};
+use lxt_generate::{large, Large, Random, LONG_TIMES, SHORT_TIMES};
 use lxt_reference::Judged;
 
 pub struct Input {
@@ -14,7 +14,9 @@ pub struct Input {
     pub facilities: usize,
     pub changes: usize,
     /// The latest time that is asked about.
-    latest: u32,
+    latest: i64,
+    /// Roots and offsets of changes that are read, evenly over all.
+    read: Vec<(u32, u32)>,
 }
 
 impl Input {
@@ -28,11 +30,15 @@ impl Input {
         let read = |(offset, root)| judged.change(root, offset, &mut bits);
         let newest = newest.max().map(read);
         let latest = newest.map_or(0, |it| it.expect("a change").time);
+        let all = judged.full_list(&vec![1; chains.len()]).expect("a list");
+        let read = (0..64).map(|place| all[place * all.len() / 64]);
+        let read = read.collect();
         Input {
             name: name.into(),
             facilities: chains.len(),
-            changes: chains.iter().map(Vec::len).sum(),
+            changes: all.len(),
             latest,
+            read,
             file,
         }
     }
@@ -43,6 +49,7 @@ impl Input {
             facilities,
             width,
             entries: bytes / 100,
+            times_tag: SHORT_TIMES,
         };
         Input::new(name, large(&shape))
     }
@@ -65,13 +72,20 @@ fn inputs() -> Vec<Input> {
         inputs.push(Input::of_shape("4,096-bit buses", bytes, 122, 4_096));
     }
     // More time entries than bytes of changes: two or three at each position.
-    let shape = Large {
-        bytes: LONGEST,
-        facilities: 1,
-        width: 8,
-        entries: 2_000_000,
-    };
-    inputs.push(Input::new("2,000,000 times", large(&shape)));
+    // The same with 64-bit times, of which fewer fit.
+    for (name, times_tag, entries) in [
+        ("2,000,000 times", SHORT_TIMES, 2_000_000),
+        ("1,300,000 64-bit times", LONG_TIMES, 1_300_000),
+    ] {
+        let shape = Large {
+            bytes: LONGEST,
+            facilities: 1,
+            width: 8,
+            entries,
+            times_tag,
+        };
+        inputs.push(Input::new(name, large(&shape)));
+    }
     inputs
 }
 
@@ -113,10 +127,10 @@ fn values(input: &Input, one: f64) {
     let mut random = Random::new(7);
     let question = |_| {
         let facility = random.below(input.facilities) as u32;
-        (facility, random.within(0, input.latest.into()) as u32)
+        (facility, random.within_signed(0, input.latest))
     };
     let calls = calls_in_a_run(one, 64);
-    let questions: Vec<(u32, u32)> = (0..calls).map(question).collect();
+    let questions: Vec<(u32, i64)> = (0..calls).map(question).collect();
     let (mut bits, mut other) = (vec![0; 4_096], vec![0; 4_096]);
     for (facility, time) in &questions {
         let ours = lxt::value_at(file, *facility, *time, &mut bits);
@@ -137,6 +151,32 @@ fn values(input: &Input, one: f64) {
         },
     );
     row(input, "a value at a time", times, calls);
+}
+
+fn changes(input: &Input, one: f64) {
+    let file = &input.file;
+    let calls = calls_in_a_run(one, input.read.len());
+    // Evenly over all again.
+    let place = |call: usize| input.read[call * input.read.len() / calls];
+    let (mut bits, mut other) = (vec![0; 4_096], vec![0; 4_096]);
+    for (root, offset) in (0..calls).map(place) {
+        let ours = lxt::change(file, root, offset, &mut bits).map(|it| it.time);
+        let theirs = lxt_reference::change(file, root, offset, &mut other).map(|it| it.time);
+        assert_eq!((ours.ok(), &bits), (theirs.ok(), &other));
+    }
+    let times = medians(
+        || {
+            for (root, offset) in (0..calls).map(place) {
+                let _ = black_box(lxt::change(file, root, offset, &mut bits));
+            }
+        },
+        || {
+            for (root, offset) in (0..calls).map(place) {
+                let _ = black_box(lxt_reference::change(file, root, offset, &mut other));
+            }
+        },
+    );
+    row(input, "a change", times, calls);
 }
 
 fn names(input: &Input, one: f64) {
@@ -301,6 +341,7 @@ pub fn print() {
     for input in inputs() {
         let one = judging(&input);
         values(&input, one);
+        changes(&input, one);
         names(&input, one);
         whole_walk(&input);
         first_calls(&input, one);

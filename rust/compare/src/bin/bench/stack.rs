@@ -5,7 +5,7 @@ use std::hint::black_box;
 
 use crate::timing::{grouped, used};
 use lxt::Pair;
-use lxt_generate::{large, Large};
+use lxt_generate::{large, Large, LONG_TIMES, SHORT_TIMES};
 
 type Entry = extern "C" fn(*mut c_void) -> *mut c_void;
 
@@ -78,12 +78,15 @@ pub fn print() {
         .collect();
     files.extend((0..300).map(|seed| lxt_generate::case(seed).bytes));
     for (facilities, width) in [(1, 8), (122, 4_096), (4_096, 8)] {
-        files.push(large(&Large {
-            bytes: 1_000_000,
-            facilities,
-            width,
-            entries: 1_000,
-        }));
+        for times_tag in [SHORT_TIMES, LONG_TIMES] {
+            files.push(large(&Large {
+                bytes: 1_000_000,
+                facilities,
+                width,
+                entries: 1_000,
+                times_tag,
+            }));
+        }
     }
     // A thread's own use, of which a call's is counted from.
     let nothing = used_by(&mut || used(0));
