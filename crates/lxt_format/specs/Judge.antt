@@ -14,17 +14,17 @@ use Rattle.lxt_format.specs.declared.Facts.{Facts}
 use Rattle.lxt_format.specs.declared.Pair.{Pair}
 use Rattle.lxt_format.specs.declared.Summary.{Summary}
 
--- checks 1 to 14, where `times` says whether the rule of times is kept: RisingTimes puts the one before Ask 2 in its place
-unfoldable pub tablesRefusalBy : Bool → List ℕ → ℕ
-tablesRefusalBy times s =
+-- checks 1 to 14, by whether the rules of 6, 7, 8 and 13 are kept, which paper 02 changes: ShortTimes and RisingTimes put those before it in their place
+unfoldable pub tablesRefusalBy : Bool → Bool → Bool → Bool → List ℕ → ℕ
+tablesRefusalBy once there bodies times s =
     1 unless lengthAllowed s
     orElse 2 unless startsRight s
     orElse 3 unless endsRight s
     orElse 4 unless (listingOf s .listed)
     orElse 5 unless nothingCompressed s
-    orElse 6 unless timesOnce s
-    orElse 7 unless sectionsPresent s
-    orElse 8 unless bodiesInside s
+    orElse 6 unless once
+    orElse 7 unless there
+    orElse 8 unless bodies
     orElse 9 unless countAllowed (facilityCount s)
     orElse 10 unless namesAllowed s
     orElse 11 unless geometriesAllowed s
@@ -32,9 +32,9 @@ tablesRefusalBy times s =
     orElse 13 unless times
     orElse 14 unless realTestAllowed s
 
--- by the rule that holds: carrying on makes these too
+-- by the rules that hold: carrying on makes these too
 unfoldable pub tablesRefusal : List ℕ → ℕ
-tablesRefusal s = tablesRefusalBy (timesAllowed s) s
+tablesRefusal s = tablesRefusalBy (timesOnce s) (sectionsPresent s) (bodiesInside s) (timesAllowed s) s
 
 -- how the changes of a facility with these facts are read, and those of the root f
 abbrev pub signalBy : List ℕ → Facts → Signal

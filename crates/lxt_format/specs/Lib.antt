@@ -25,6 +25,8 @@ pub mod Walk
 pub mod WalkLaws
 pub mod Answers
 pub mod Columns
+pub mod ShortTimes
+pub mod ShortTimesLaws
 pub mod Questions
 pub mod Everything
 pub mod Traces
@@ -32,3 +34,4 @@ pub mod Examples
 pub mod Neighbours
 pub mod Padding
 pub mod ZeroDeltas
+pub mod WideTimes

@@ -8,7 +8,7 @@ use lib.IntN.{ℤ, pos}
 use lib.Signed.{leZ}
 use lib.Dec.{leb, eqb}
 use Rattle.lxt_format.specs.Basics.{if_then_else_, _unless_, _orElse_, all}
-use Rattle.lxt_format.specs.Sections.{timeCount}
+use Rattle.lxt_format.specs.Sections.{timeCount, timesOnce, sectionsPresent, bodiesInside}
 use Rattle.lxt_format.specs.Times.{positionDeltas, timeDeltas, positionsOf, timesOf, tableAllowed, timesAllowed, timeOf}
 use Rattle.lxt_format.specs.Judge.{tablesRefusalBy, tablesRefusal, chainsRefusal, changesApart, fileRefusal}
 
@@ -24,7 +24,7 @@ risingTimesAllowed s = if eqb (timeCount s) 0 then timesAllowed s else risingTab
 
 -- checks 1 to 14 with it
 unfoldable pub risingTablesRefusal : List ℕ → ℕ
-risingTablesRefusal s = tablesRefusalBy (risingTimesAllowed s) s
+risingTablesRefusal s = tablesRefusalBy (timesOnce s) (sectionsPresent s) (bodiesInside s) (risingTimesAllowed s) s
 
 -- the refusal of a file with it
 unfoldable pub risingRefusal : List ℕ → ℕ
