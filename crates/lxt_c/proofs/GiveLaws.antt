@@ -43,9 +43,6 @@ module _ {A : Type 0} {p q : Answer A} (e : p ≡ q) where
 pub one-number-is : {p q : Answer ℕ} → p ≡ q → (before : ℕ) {after : ℕ} → after ≡ oneNumber p before → after ≡ oneNumber q before
 one-number-is e before h = h ∙ ap (λ a. oneNumber a before) e
 
-pub value-numbers-are : {p q : Answer Shown} → p ≡ q → (before : List ℕ) {after : List ℕ} → after ≡ valueNumbers p before → after ≡ valueNumbers q before
-value-numbers-are e before h = h ∙ ap (λ a. valueNumbers a before) e
-
 pub carry-numbers-are : {p q : Answer (ℕ × Bool)} → p ≡ q → (before : List ℕ) {after : List ℕ} → after ≡ carryNumbers p before → after ≡ carryNumbers q before
 carry-numbers-are e before h = h ∙ ap (λ a. carryNumbers a before) e
 

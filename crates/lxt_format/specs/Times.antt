@@ -12,7 +12,8 @@ use Rattle.lxt_format.specs.Bytes.{numberAt, numbersAt, signed}
 use Rattle.lxt_format.specs.Sections.{endOf, wideTimes, timesAt, timeBytes, timeCount}
 use Rattle.lxt_format.specs.Geometry.{rootsOf, syncOf}
 
--- "All times become signed 64-bit numbers, those of tag 06 too": the bytes of a time, 4 of them widened with zeros
+-- "All times become signed 64-bit numbers, those of tag 06 too": the bytes of a time as such a number. Those of tag 06 are 4, widened with zeros, so that
+-- it is not negative.
 abbrev pub timeOfBytes : ℕ → ℤ
 timeOfBytes x = signed 64 x
 

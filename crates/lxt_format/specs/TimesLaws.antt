@@ -13,7 +13,7 @@ use Rattle.lxt_format.specs.Basics.{all}
 use Rattle.lxt_format.specs.BasicsLaws.{on-test, and-both}
 use Rattle.lxt_format.specs.BytesLaws.{length-numbers}
 use Rattle.lxt_format.specs.Sections.{wideTimes, timeBytes, timeCount}
-use Rattle.lxt_format.specs.Times.{timeOfBytes, positionsAt, positionDeltas, timeDeltaBytes, timeDeltas, sumsBy, positionsOf, timesOf, timeFrom, timeOf}
+use Rattle.lxt_format.specs.Times.{timeOfBytes, positionDeltas, timeDeltaBytes, timeDeltas, sumsBy, positionsOf, timesOf, timeFrom, timeOf}
 
 -- ---- running sums
 
@@ -105,11 +105,11 @@ pub record Decides (s : List ℕ) (o i : ℕ) : Type 0 where
 module _ (s : List ℕ) where
   pub length-position-deltas : length (positionDeltas s) ≡ timeCount s
   unfolding positionDeltas
-  length-position-deltas = length-numbers 4 (timeCount s) s (positionsAt s)
+  length-position-deltas = length-numbers 4 (timeCount s) s _
 
   pub length-time-deltas : length (timeDeltaBytes s) ≡ timeCount s
   unfolding timeDeltaBytes
-  length-time-deltas = length-numbers (timeBytes (wideTimes s)) (timeCount s) s (positionsAt s + 4 * timeCount s)
+  length-time-deltas = length-numbers (timeBytes (wideTimes s)) (timeCount s) s _
 
   pub length-positions : length (positionsOf s) ≡ timeCount s
   unfolding positionsOf

@@ -1,25 +1,25 @@
 -- The layout of a time table, whose times have 8 or 4 bytes.
 use Prim.Native.Nat.{ℕ, _+_, _-_, _*_, _≤_, _<_}
-use mathlib.Core.Path.{_≡_, sym, _∙_, ap}
+use mathlib.Core.Path.{_≡_, _∙_}
 use mathlib.Core.Bool.{Bool, true, false}
 use mathlib.Core.List.{List}
+use native.Mathlib.Nat.{le-refl, mul-le-mul}
 use native.Mathlib.Omega.{arith}
 use borrow.Author.Tests.{lt-ltb, le-ltb}
 use Rattle.lxt_format.specs.Bytes.{numberAt, u32At}
 use Rattle.lxt_format.specs.Sections.{timeBytes, timesSize}
 use Rattle.lxt_format.specs.BiasedTimes.{bias, biasedBytes}
 
+-- m times have as many bytes, of 8 at most each
+pub times-fit : (b m : ℕ) → b ≤ 8 → m < 4294967296 → b * m < 34359738368
+times-fit b m h l = let p = mul-le-mul h (le-refl m) in omega arith
+
+pub size-is : (wide : Bool) (m : ℕ) → m < 4294967296 → (b : ℕ) → b ≡ timeBytes wide → b ≤ 8
+    → (4 + 2 * b + 4 * m + b * m ≡ timesSize wide m) × (4 + 2 * b + 4 * m + b * m < 1099511627776)
+size-is wide m l b e h = (rw e, omega (arith, times-fit b m h l))
+
+-- time i of those from `at` on
 module _ (wide : Bool) (h : wide ≡ true) where
-  pub size-wide : (m : ℕ) → m < 4294967296 → (20 + 12 * m ≡ timesSize wide m) × (20 + 12 * m < 1099511627776)
-  size-wide m l = rw h (omega arith, omega arith)
-
-  pub last-wide : (at : ℕ) → at + 12 ≡ at + 4 + timeBytes wide
-  last-wide at = rw h (omega arith)
-
-  pub positions-wide : (at : ℕ) → (at + 20 ≡ at + 4 + 2 * timeBytes wide) × (at + 20 ≤ at + 20)
-  positions-wide at = rw h (omega arith, omega arith)
-
-  -- time i of those from `at` on
   pub inside-wide : (at i len : ℕ) → at + timeBytes wide * i + timeBytes wide ≤ len → at + 8 * i + 8 ≤ len
   inside-wide at i len l = rw h at l
 
@@ -27,15 +27,6 @@ module _ (wide : Bool) (h : wide ≡ true) where
   time-wide s at i x e = e ∙ rw h
 
 module _ (wide : Bool) (h : wide ≡ false) where
-  pub size-narrow : (m : ℕ) → m < 4294967296 → (12 + 8 * m ≡ timesSize wide m) × (12 + 8 * m < 1099511627776)
-  size-narrow m l = rw h (omega arith, omega arith)
-
-  pub last-narrow : (at : ℕ) → at + 8 ≡ at + 4 + timeBytes wide
-  last-narrow at = rw h (omega arith)
-
-  pub positions-narrow : (at : ℕ) → (at + 12 ≡ at + 4 + 2 * timeBytes wide) × (at + 12 ≤ at + 20)
-  positions-narrow at = rw h (omega arith, omega arith)
-
   pub inside-narrow : (at i len : ℕ) → at + timeBytes wide * i + timeBytes wide ≤ len → at + 4 * i + 4 ≤ len
   inside-narrow at i len l = rw h at l
 

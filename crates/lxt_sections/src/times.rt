@@ -9,14 +9,23 @@ ghost use Rattle.lxt_format.specs.BiasedTimes.{biasedBytes};
 use crate::be32;
 use crate::be64;
 
+// The bytes of a time.
+pub fn time_bytes(wide: bool) -> usize
+    ensures { λ r. ⌜ (r ≡ timeBytes wide) × (r ≤ 8) ⌝ }
+{
+    if wide {
+        return 8;
+    }
+    4
+}
+
 // The bytes of a table of `m` entries.
 pub fn size(wide: bool, m: u32) -> usize
     ensures { λ r. ⌜ (r ≡ timesSize wide m) × (r < 1099511627776) ⌝ }
 {
-    if wide {
-        return 20 + 12 * (m as usize);
-    }
-    12 + 8 * (m as usize)
+    let bytes = time_bytes(wide);
+    let count = m as usize;
+    4 + 2 * bytes + 4 * count + bytes * count
 }
 
 // Where the last time of the table at `times` stands.
@@ -24,10 +33,7 @@ pub fn last_at(times: usize, wide: bool) -> usize
     requires { ⌜ times < 9223372036854775808 ⌝ }
     ensures { λ r. ⌜ r ≡ times + 4 + timeBytes wide ⌝ }
 {
-    if wide {
-        return times + 12;
-    }
-    times + 8
+    times + 4 + time_bytes(wide)
 }
 
 // Where its position deltas start.
@@ -35,10 +41,7 @@ pub fn positions_at(times: usize, wide: bool) -> usize
     requires { ⌜ times < 9223372036854775808 ⌝ }
     ensures { λ r. ⌜ (r ≡ times + 4 + 2 * timeBytes wide) × (r ≤ times + 20) ⌝ }
 {
-    if wide {
-        return times + 20;
-    }
-    times + 12
+    times + 4 + 2 * time_bytes(wide)
 }
 
 // Where its time deltas start.
