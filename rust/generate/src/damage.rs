@@ -395,11 +395,7 @@ fn times_head_passes_end(draft: &Draft, random: &mut Random) -> Option<Neighbour
     let head = head_length(tag);
     let kept = random.pick(&[0, 3, 4, 11, head - 1, head - 1, head - 1]);
     over.body.truncate(near.times_at() + kept);
-    // Changes need an entry.
-    let near_answer = match draft.changes.is_empty() {
-        true => Ok(()),
-        false => Err(13),
-    };
+    let near_answer = without_entries(draft);
     Some(Neighbours {
         near,
         near_answer,
@@ -708,6 +704,14 @@ fn table(tag: u8, first: i64, last: i64, positions: &[u32], times: &[i64]) -> Ti
     }
 }
 
+/// The answer to the draft with times that have no entry: changes need one.
+fn without_entries(draft: &Draft) -> Result<(), u8> {
+    match draft.changes.is_empty() {
+        true => Ok(()),
+        false => Err(13),
+    }
+}
+
 /// The draft with a new table of times at the end, of the kind that it has.
 fn with_times(draft: &Draft, first: i64, last: i64, positions: &[u32], times: &[i64]) -> Draft {
     let mut new = draft.clone();
@@ -955,10 +959,7 @@ fn first_above_last(draft: &Draft, random: &mut Random) -> Option<Neighbours> {
     let time = random.pick(&[first, last, middle]);
     let near = with_times(draft, first, last, &[], &[]);
     let over = with_times(draft, first, last, &[4], &[time]);
-    let near_answer = match draft.changes.is_empty() {
-        true => Ok(()),
-        false => Err(13),
-    };
+    let near_answer = without_entries(draft);
     Some(Neighbours {
         near,
         near_answer,

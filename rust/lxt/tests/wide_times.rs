@@ -5,6 +5,7 @@ use lxt_compare::judge::TRACE;
 use lxt_compare::times::{small_trace, small_trace_09};
 use refused::by_every_call;
 
+mod many;
 mod refused;
 mod wide;
 
@@ -243,38 +244,17 @@ fn any_time_of_32_bit_times() {
 /// 1,500 entries with the times -750 to 749 at one position: of a change, or behind all three.
 #[test]
 fn many_entries_at_one_position() {
-    let mut cases = lxt_generate::hostile();
-    cases.retain(|case| case.origin.starts_with("1,500 64-bit times at "));
     let (low, high) = (-750, 749);
     let expected = [[high; 3], [low, high, high], [low, low, high], [low; 3]];
-    assert_eq!(cases.len(), expected.len());
-    for (case, times) in cases.iter().zip(expected) {
-        let trace = Trace::open(&case.bytes).expect("an accepted trace");
-        let mut changes = Vec::from_iter(trace.walk_all().expect("a walk"));
-        changes.reverse();
-        let read = changes.iter().map(|it| trace.change(0, it.offset));
-        let read = Vec::from_iter(read.map(|it| it.expect("a change").time));
-        assert_eq!(read, times, "{}", case.origin);
-        for time in [LEAST, -751, -750, -1, 0, 748, 749, 750, MOST] {
-            let newest = times.iter().rposition(|it| *it <= time);
-            let value = newest.map_or("X", |place| ["0", "1", "Z"][place]);
-            let shown = trace.value_at(0, time).expect("a value");
-            assert_eq!(shown, bits(value), "{} {time}", case.origin);
-        }
-    }
+    let asked = [LEAST, -751, -750, -1, 0, 748, 749, 750, MOST];
+    many::at_one_position("1,500 64-bit times at ", expected, &asked);
 }
 
 /// Nearly as many entries as the longest file has room for.
 #[test]
 fn as_many_entries_as_fit() {
-    let mut cases = lxt_generate::hostile_large();
-    cases.retain(|case| case.origin.starts_with("1,300,000 64-bit times"));
-    let answers = cases.iter().map(|case| {
-        let judged = lxt::judge(&case.bytes).map_err(|it| it.number());
-        (judged.map(|_| ()), case.expected.expect("an answer"))
-    });
-    let answers = Vec::from_iter(answers);
     let refused = (Err(13), Err(13));
+    let answers = many::judged("1,300,000 64-bit times");
     assert_eq!(answers, [(Ok(()), Ok(())), refused, refused]);
 }
 

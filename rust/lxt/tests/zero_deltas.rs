@@ -5,6 +5,7 @@ use lxt_compare::judge::TRACE;
 use lxt_compare::times::small_trace;
 use refused::by_every_call;
 
+mod many;
 mod refused;
 mod tied;
 
@@ -110,38 +111,16 @@ fn only_the_first_position_and_the_bounds_refuse() {
 /// 1,500 entries with the times 0 to 1,499 at one position: of a change, or behind all three.
 #[test]
 fn of_many_entries_the_last_decides_from_there_on() {
-    let start = "1,500 time entries at ";
-    let mut cases = lxt_generate::hostile();
-    cases.retain(|case| case.origin.starts_with(start));
     let expected = [[1_499; 3], [0, 1_499, 1_499], [0, 0, 1_499], [0; 3]];
-    assert_eq!(cases.len(), expected.len());
-    for (case, times) in cases.iter().zip(expected) {
-        let trace = Trace::open(&case.bytes).expect("an accepted trace");
-        let mut changes = Vec::from_iter(trace.walk_all().expect("a walk"));
-        changes.reverse();
-        let read = changes.iter().map(|it| trace.change(0, it.offset));
-        let read = Vec::from_iter(read.map(|it| it.expect("a change").time));
-        assert_eq!(read, times, "{}", case.origin);
-        for time in [0, 1, 749, 750, 1_498, 1_499, 1_500] {
-            let newest = times.iter().rposition(|it| *it <= time);
-            let value = newest.map_or("X", |place| ["0", "1", "Z"][place]);
-            let shown = trace.value_at(0, time).expect("a value");
-            assert_eq!(shown, bits(value), "{} {time}", case.origin);
-        }
-    }
+    let asked = [0, 1, 749, 750, 1_498, 1_499, 1_500];
+    many::at_one_position("1,500 time entries at ", expected, &asked);
 }
 
 /// 2,000,000 entries at one position, nearly as many as the longest file has room for: accepted, and refused for
 /// the time of the first.
 #[test]
 fn as_many_entries_as_fit() {
-    let mut cases = lxt_generate::hostile_large();
-    cases.retain(|case| case.origin.starts_with("2,000,000 time entries"));
-    let answers = cases.iter().map(|case| {
-        let judged = lxt::judge(&case.bytes).map_err(|it| it.number());
-        (judged.map(|_| ()), case.expected.expect("an answer"))
-    });
-    let answers = Vec::from_iter(answers);
+    let answers = many::judged("2,000,000 time entries");
     assert_eq!(answers, [(Ok(()), Ok(())), (Err(13), Err(13))]);
 }
 

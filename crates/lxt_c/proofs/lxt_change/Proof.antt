@@ -19,7 +19,9 @@ returns c =
     let read = c .before .before .before .before .before .of-change .ensures in
     let gave = c .before .give-value .ensures in
     let no = c .if1 .taken in
-    (timed-number _ _ _ _ timed (read .0) _ (gave .0), (read .1, (untimed _ _ _ _ timed (read .0) _ (gave .0) no _, (timed-numbers _ _ _ _ timed (read .0) _ (gave .0) _ _ (gave .1), unclean _ _ _ _ timed (read .0) _ (gave .0) no _))))
+    let number = timed-number _ _ _ _ timed (read .0) _ (gave .0) in
+    let numbers = timed-numbers _ _ _ _ timed (read .0) _ (gave .0) _ _ (gave .1) in
+    (number, (read .1, (untimed _ _ _ _ timed (read .0) _ (gave .0) no _, (numbers, unclean _ _ _ _ timed (read .0) _ (gave .0) no _))))
 
 yes-no-requires : tie.Need-yes-no-requires
 yes-no-requires c κs = search needs
@@ -33,7 +35,10 @@ returns-2 c =
     let read = c .before .before .before .before .before .before .before .of-change .ensures in
     let gave = c .before .before .before .give-value .ensures in
     let yes = c .before .before .if1 .left in
-    (sym yes ∙ timed-number _ _ _ _ timed (read .0) _ (gave .0), (read .1, (timed-time _ _ _ _ timed (read .0) _ (gave .0) yes (search needs) _, (timed-numbers _ _ _ _ timed (read .0) _ (gave .0) _ _ (gave .1), timed-clean _ _ _ _ timed (read .0) _ (gave .0) yes _ (c .yes-no .ensures) _))))
+    let number = timed-number _ _ _ _ timed (read .0) _ (gave .0) in
+    let numbers = timed-numbers _ _ _ _ timed (read .0) _ (gave .0) _ _ (gave .1) in
+    let time = timed-time _ _ _ _ timed (read .0) _ (gave .0) yes (search needs) in
+    (sym yes ∙ number, (read .1, (time _, (numbers, timed-clean _ _ _ _ timed (read .0) _ (gave .0) yes _ (c .yes-no .ensures) _))))
 
 pub lxt-change-spec : {M : Type 1} → statement M
 lxt-change-spec =

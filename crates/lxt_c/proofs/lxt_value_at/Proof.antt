@@ -17,7 +17,8 @@ returns c =
     let read = c .before .before .before .before .at-time .ensures in
     let gave = c .give-value .ensures in
     let fits = c .before .before .before .before .before .before .before .before .fits .time in
-    (at-number _ _ _ fits _ (c .before .before .before .before .at-time .result) (read .0) _ (gave .0), (at-buffer _ _ _ fits _ _ (read .1), at-numbers _ _ _ fits _ (c .before .before .before .before .at-time .result) (read .0) _ _ (gave .1)))
+    let value = c .before .before .before .before .at-time .result in
+    (at-number _ _ _ fits _ value (read .0) _ (gave .0), (at-buffer _ _ _ fits _ _ (read .1), at-numbers _ _ _ fits _ value (read .0) _ _ (gave .1)))
 
 pub lxt-value-at-spec : {M : Type 1} → statement M
 lxt-value-at-spec = tie.close (tie.spec at-time-requires give-value-requires same-length returns)
