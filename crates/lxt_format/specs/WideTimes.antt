@@ -13,7 +13,7 @@ use Rattle.lxt_format.specs.Walk.{fullList}
 use Rattle.lxt_format.specs.Answers.{Timed, bitsOf}
 use Rattle.lxt_format.specs.Questions.{changeAsked, changeBuffer, valueBuffer}
 use Rattle.lxt_format.specs.Everything.{everything}
-use Rattle.lxt_format.specs.Traces.{spelled, with32, trace, entries, endOfTrace, timesValue, changesValue}
+use Rattle.lxt_format.specs.Traces.{spelled, with32, trace, entries, syncEntry, endOfTrace, timesValue, changesValue}
 use Rattle.lxt_format.specs.Examples.{Row, row, Holds, pair}
 use Rattle.lxt_format.specs.ZeroDeltas.{tabled}
 
@@ -128,6 +128,7 @@ wideTimes =
     ∷ row 0xE (shownAt exampleE (leastTime ∷ negsuc 1 ∷ negsuc 0 ∷ greatestTime ∷ [])) (spelled 4 0x31313030)
     ∷ row 0xF (shown exampleF) (refusedAs 13)
     ∷ row 0x10 (shown exampleG) (refusedAs 13)
+    ∷ row 0x10 (fileRefusal (with32 exampleG syncEntry 0)) 0
     ∷ row 0x11 (shown exampleH) (accepted (pos 3) (pos 3))
     ∷ row 0x12 (shown exampleI) (refusedAs 8)
     ∷ row 0x13 (shown exampleJ) (refusedAs 6)
@@ -166,4 +167,4 @@ wideTimes =
 pub wide-times-hold : Holds wideTimes
 unfolding everything trace spelled tabled longTabledAs wideTimes
 wide-times-hold =
-    (refl, (refl, (refl, (refl, (refl, (refl, (refl, (refl, (refl, (refl, (refl, (refl, (refl, (refl, (refl, (refl, (refl, (refl, (refl, (refl, (refl, (refl, (refl, (refl, (refl, (refl, (refl, (refl, (refl, (refl, (refl, (refl, (refl, (refl, (refl, tt)))))))))))))))))))))))))))))))))))
+    (refl, (refl, (refl, (refl, (refl, (refl, (refl, (refl, (refl, (refl, (refl, (refl, (refl, (refl, (refl, (refl, (refl, (refl, (refl, (refl, (refl, (refl, (refl, (refl, (refl, (refl, (refl, (refl, (refl, (refl, (refl, (refl, (refl, (refl, (refl, (refl, tt))))))))))))))))))))))))))))))))))))
