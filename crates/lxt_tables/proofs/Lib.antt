@@ -1,5 +1,6 @@
 pub mod NamesLaws
 pub mod FacilityLaws
+pub mod WayLaws
 pub mod AliasLaws
 pub mod TimesLaws
 pub mod RootsLaws

@@ -13,6 +13,7 @@ use mir.Syntax.{w8}
 use mir.Val.{SFits, toZ, ofZ}
 use mir.ValLaws.{toZ-ofZ}
 use borrow.Author.Tests.{ne-eqb, leb-true}
+use Rattle.lxt_format.specs.Limits.{mostFacilities}
 use Rattle.lxt_format.specs.Basics.{_unless_, _orElse_, range, all, any}
 use Rattle.lxt_format.specs.BasicsLaws.{on-test, and-both, neither, kept}
 use Rattle.lxt_format.specs.Bytes.{u32At}
@@ -36,9 +37,10 @@ use Rattle.lxt_tables.specs.declared.Tables.{Tables}
 record Bounds (s : List ℕ) : Type 0 where
   places : Located s
   bodies : bodiesInside s ≡ true
+  few : facilityCount s ≤ mostFacilities
 
 bounds : (s : List ℕ) → sectionsRefusal s ≡ 0 → Bounds s
-unfolding sectionsRefusal frameRefusal countedRefusal lengthAllowed
+unfolding sectionsRefusal frameRefusal countedRefusal lengthAllowed countAllowed
 bounds s h =
     let frame = neither (frameRefusal s) _ h in
     let c4 = neither (4 unless (listingOf s .listed)) _ (frame .1) in
@@ -49,7 +51,11 @@ bounds s h =
     let size = kept 1 (lengthAllowed s) (lit< tt) (neither (1 unless lengthAllowed s) (2 unless startsRight s orElse 3 unless endsRight s) (frame .0) .0) in
     let six = leb-true _ _ (and-both _ _ size .0) in
     let b = kept 8 (bodiesInside s) (lit< tt) (c8 .0) in
-    record { places = located s six (kept 4 _ (lit< tt) (c4 .0)) (kept 7 _ (lit< tt) (c7 .0)) b; bodies = b }
+    record {
+      places = located s six (kept 4 _ (lit< tt) (c4 .0)) (kept 7 _ (lit< tt) (c7 .0)) b;
+      bodies = b;
+      few = leb-true _ _ (kept 9 (countAllowed (facilityCount s)) (lit< tt) (c8 .1));
+    }
 
 found-refusal : (k : ℕ) (s : List ℕ) → found k s .refusal ≡ k
 unfolding found
@@ -81,6 +87,7 @@ module _ (s : List ℕ) (p : Sections) (e : p ≡ sectionsOf s) where
       rw f record {
         passed = z;
         places = refl;
+        few = b .few;
         geometry = record { start = refl; count = refl; inside = omega (arith, l) };
         sync = record { start = refl; count = refl; inside = omega (arith, l) };
         times = record { start = refl; count = refl; form = refl; limit = refl; low = l .end-low; high = omega (arith, l); inside = omega (arith, l) };

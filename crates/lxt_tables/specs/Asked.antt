@@ -6,7 +6,9 @@ use mathlib.Core.List.{List, [], _∷_}
 use lib.ListN.{length, getD}
 use lib.Signed.{mag}
 use lib.Dec.{ltb, leb}
+use Rattle.lxt_format.specs.Limits.{mostFacilities}
 use Rattle.lxt_format.specs.Sections.{sectionOf, endOf, facilityCount, wideTimes, timesAt, timeCount, timesSize}
+use Rattle.lxt_format.specs.Geometry.{rootOf, aliasesAllowed}
 use Rattle.lxt_format.specs.Times.{timeOfBytes, firstTime, lastTime, positionDeltas, timeDeltaBytes}
 use Rattle.lxt_format.specs.BiasedTimes.{bias, biased}
 use Rattle.lxt_sections.specs.Stage.{sectionsRefusal, found}
@@ -18,6 +20,25 @@ pub record Sync (s : List ℕ) (sync n : ℕ) : Type 0 where
   pub start : sync ≡ sectionOf s 0x02
   pub count : n ≡ facilityCount s
   pub inside : sync + 4 * n ≤ length s
+
+-- a table of roots: an entry below n is the root of its facility, and the first f are known
+pub record Roots (s : List ℕ) (n f : ℕ) (roots : List ℕ) : Type 0 where
+  pub room : n ≤ length roots
+  pub right : (g : ℕ) → g < n → getD roots g 0 < n → getD roots g 0 ≡ rootOf s g
+  pub first : (g : ℕ) → g < f → getD roots g 0 < n
+
+-- such a table, and a root of f to store
+pub record Stores (s : List ℕ) (n f root : ℕ) (roots : List ℕ) : Type 0 where
+  pub table : Roots s n f roots
+  pub inside : f < n
+  pub root-is : root ≡ rootOf s f
+  pub found : root < n
+
+-- whether every facility has a root, and then a table of them
+pub record Resolved (s : List ℕ) (n : ℕ) (allowed : Bool) (roots : List ℕ) : Type 0 where
+  pub answer : allowed ≡ aliasesAllowed s
+  pub room : n ≤ length roots
+  pub roots-are : allowed ≡ true → (f : ℕ) → f < n → getD roots f 0 ≡ rootOf s f
 
 -- where the time table lies, m, whether its times have 8 bytes, and T
 pub record Times (s : List ℕ) (times m : ℕ) (wide : Bool) (end : ℕ) : Type 0 where
@@ -48,6 +69,7 @@ pub record OneByte (s : List ℕ) (tag at : ℕ) : Type 0 where
 pub record Placed (s : List ℕ) (p : Sections) : Type 0 where
   pub passed : sectionsRefusal s ≡ 0
   pub places : p ≡ found 0 s
+  pub few : p .facilities ≤ mostFacilities
   pub geometry : Geometry s (p .geometry) (p .facilities)
   pub sync : Sync s (p .sync) (p .facilities)
   pub times : Times s (p .times) (p .«time_count») (p .«wide_times») (p .end)

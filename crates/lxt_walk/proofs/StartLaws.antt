@@ -20,8 +20,9 @@ use Rattle.lxt_format.specs.Columns.{paired, numbersIn, offsetsIn, onto}
 use Rattle.lxt_format.specs.Walk.{asks, startOffsets, withOffsets}
 use Rattle.lxt_format.specs.Questions.{startRefusal, startAsked, startRecord}
 use Rattle.lxt_tables.specs.Stage.{Geometry, tablesOf}
-use Rattle.lxt_tables.specs.Asked.{Sync}
+use Rattle.lxt_tables.specs.Asked.{Sync, Roots, Resolved}
 use Rattle.lxt_tables.specs.declared.Tables.{Tables}
+use Rattle.lxt_tables.proofs.AliasLaws.{none-known}
 use Rattle.lxt_tables.proofs.TablesLaws.{Known, known, refusal-is}
 use Rattle.lxt_chains.proofs.Bridge.{length-start, getD-start}
 use Rattle.lxt_walk.proofs.ColumnsLaws.{length-paired, numbers-onto, offsets-onto, length-onto, onto-next, onto-again, numbers-with, offsets-with-given}
@@ -131,12 +132,23 @@ asked-begun s t asked os w =
       past = refl;
     }
 
-module _ (s : List ℕ) (t : Tables) (asked os₀ : List ℕ) (w : Starting s t asked os₀) (k : ℕ) (os : List ℕ) (v : Asking s (t .facilities) asked os₀ k os) where
+module _ (s : List ℕ) (t : Tables) (asked os₀ : List ℕ) (w : Starting s t asked os₀) where
+  pub asked-geometry : Geometry s (t .geometry) (t .facilities)
+  asked-geometry = start-known s t (w .tables) (w .accepted) .geometry-at
+
+  pub asked-none-known : Roots s (t .facilities) 0 (replicate 4096 4096)
+  asked-none-known = none-known s (t .facilities) (start-known s t (w .tables) (w .accepted) .few)
+
+  -- a file that is accepted has a root for each facility
+  pub asked-resolved : (b : Bool) (roots : List ℕ) → Resolved s (t .facilities) b roots → Resolved s (t .facilities) true roots
+  asked-resolved b roots d =
+      let e : b ≡ true = d .answer ∙ start-known s t (w .tables) (w .accepted) .passed .aliases in
+      rw e at d
+
+module _ (s : List ℕ) (t : Tables) (asked os₀ : List ℕ) (w : Starting s t asked os₀) (roots : List ℕ) (d : Resolved s (t .facilities) true roots)
+    (k : ℕ) (os : List ℕ) (v : Asking s (t .facilities) asked os₀ k os) where
   tables-there : Known s t
   tables-there = start-known s t (w .tables) (w .accepted)
-
-  pub asked-geometry : Geometry s (t .geometry) (t .facilities)
-  asked-geometry = tables-there .geometry-at
 
   pub asked-sync : Sync s (t .sync) (t .facilities)
   asked-sync = tables-there .sync-at
@@ -156,13 +168,19 @@ module _ (s : List ℕ) (t : Tables) (asked os₀ : List ℕ) (w : Starting s t 
         let u = v .upto in
         record { upto = omega arith; long = v .long; room = v .room; here = λ g h. v .here g h ∙ rw (turn g, z); past = v .past }
 
-    module _ (byte : getD asked (k - 1) 0 ≡ 0 → ⊥) (r : ℕ) (er : r ≡ rootOf s (k - 1)) where
+    pub asked-root-read : k - 1 < length roots
+    asked-root-read = omega (arith, v .upto, d .room)
+
+    module _ (byte : getD asked (k - 1) 0 ≡ 0 → ⊥) (r : ℕ) (found : r ≡ getD roots (k - 1) 0) where
+      er : r ≡ rootOf s (k - 1)
+      er = found ∙ d .roots-are refl (k - 1) (omega (arith, v .upto))
+
       pub asked-below : r < t .facilities
       asked-below =
           let u = v .upto in
           let c = tables-there .facilities in
           let b = root-below s (tables-there .passed .aliases) (k - 1) (omega arith) in
-          omega arith
+          omega (arith, er)
 
       pub asked-small : r < length os
       asked-small = let a = asked-below in let b = v .room in omega arith

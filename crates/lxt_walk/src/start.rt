@@ -1,5 +1,6 @@
 // Starting a walk.
 ghost use mathlib.Core.Path.{_≡_};
+ghost use mathlib.Core.Bool.{true};
 ghost use Prim.Native.Nat.{_≤_};
 ghost use lib.ListN.{length, replicate};
 ghost use Rattle.lxt_format.specs.Basics.{range};
@@ -7,6 +8,7 @@ ghost use Rattle.lxt_format.specs.Answers.{startSays};
 ghost use Rattle.lxt_format.specs.Columns.{paired, numbersIn, offsetsIn, onto};
 ghost use Rattle.lxt_format.specs.Walk.{startOffsets};
 ghost use Rattle.lxt_format.specs.Questions.{startAsked, startRecord};
+ghost use Rattle.lxt_tables.specs.Asked.{Resolved};
 ghost use Rattle.lxt_walk.specs.Carrying.{Starting};
 use lxt_chains::whole::judged;
 use lxt_format::StartAnswer;
@@ -27,19 +29,30 @@ fn put_numbers(n: u32, numbers: &mut [u32], offsets: &mut [u32])
     }
 }
 
-// Stores the sync entry of each root asked for, where 0 stands for all. An alias asks for its root.
-fn put_asked(file: &[u8], t: Tables, asked: &[u8], offsets: &mut [u32])
-    requires { ⌜ Starting (now file) t (now asked) (now offsets) ⌝ }
+// Stores the sync entry of each root asked for, where 0 stands for all. An alias asks for its root,
+// which is in the table `roots`.
+fn put_by_roots(file: &[u8], t: Tables, roots: &[u32], asked: &[u8], offsets: &mut [u32])
+    requires { ⌜ Starting (now file) t (now asked) (now offsets) × Resolved (now file) (t .facilities) true (now roots) ⌝ }
     ensures { λ _. ⌜ now (offsets .exit) ≡ onto (startOffsets (now (file .entry)) (now (asked .entry))) (now (offsets .entry)) ⌝ }
 {
     let mut f = t.facilities;
     while 0 < f {
         f -= 1;
         if asked[f as usize] != 0 {
-            let root = aliases::root(file, t.geometry as usize, t.facilities, f);
+            let root = roots[f as usize];
             offsets[root as usize] = geometry::sync_of(file, t.sync as usize, t.facilities, root);
         }
     }
+}
+
+// The same, with a table of all roots that is made here.
+fn put_asked(file: &[u8], t: Tables, asked: &[u8], offsets: &mut [u32])
+    requires { ⌜ Starting (now file) t (now asked) (now offsets) ⌝ }
+    ensures { λ _. ⌜ now (offsets .exit) ≡ onto (startOffsets (now (file .entry)) (now (asked .entry))) (now (offsets .entry)) ⌝ }
+{
+    let mut roots = [aliases::UNKNOWN; aliases::ROOM];
+    aliases::put_roots(file, t.geometry as usize, t.facilities, &mut roots);
+    put_by_roots(file, t, &roots, asked, offsets);
 }
 
 // Starts a walk over the facilities whose byte in `asked` is not 0.

@@ -1,85 +1,37 @@
 use borrow.Author.Needs.{needs}
-use Rattle.lxt_walk.proofs.StartLaws.{Asking, asked-begun, asked-geometry, asked-read, asked-skipped, asked-below, asked-sync, asked-small, asked-stored, asked-ended}
+use Rattle.lxt_walk.proofs.StartLaws.{asked-geometry, asked-none-known, asked-resolved}
 use Rattle.lxt_walk.proofs.start.put_asked.Statement.{statement}
 use Rattle.lxt_walk.proofs.start.put_asked.Tie as tie
 
-abbrev Inv-loop : tie.InvT-loop
-Inv-loop file t asked offsets₀ f₀ offsets f = Asking file (t .facilities) asked offsets₀ f offsets
+cast-put-roots : tie.Need-cast-put-roots
+cast-put-roots c = search needs
 
-abbrev μ-loop : tie.MeasureT-loop
-μ-loop file t asked offsets₀ f₀ offsets f = f
+slice-aggregate-put-roots : tie.Need-slice-aggregate-put-roots
+slice-aggregate-put-roots c = search needs
 
-loop-holds : tie.Need-loop-holds Inv-loop μ-loop
-loop-holds c = search asked-begun
+put-roots-requires : tie.Need-put-roots-requires
+put-roots-requires c κs = (search asked-geometry, search asked-none-known)
 
-sub-f : tie.Need-sub-f Inv-loop μ-loop
-sub-f c = search needs
+slice-aggregate-put-by-roots : tie.Need-slice-aggregate-put-by-roots
+slice-aggregate-put-by-roots c = search needs
 
-cast-if1 : tie.Need-cast-if1 Inv-loop μ-loop
-cast-if1 c = search needs
+put-by-roots-requires : tie.Need-put-by-roots-requires
+put-by-roots-requires c κs = (search needs, search asked-resolved)
 
-shared-slice-read-if1 : tie.Need-shared-slice-read-if1 Inv-loop μ-loop
-shared-slice-read-if1 c = search asked-read
-
-cast-root : tie.Need-cast-root Inv-loop μ-loop
-cast-root c = search needs
-
-root-requires : tie.Need-root-requires Inv-loop μ-loop
-root-requires c κs = search asked-geometry
-
-cast-sync-of : tie.Need-cast-sync-of Inv-loop μ-loop
-cast-sync-of c = search needs
-
-sync-of-requires : tie.Need-sync-of-requires Inv-loop μ-loop
-sync-of-requires c κs = (search asked-sync, search asked-below)
-
-cast-offsets : tie.Need-cast-offsets Inv-loop μ-loop
-cast-offsets c = search needs
-
-mul-offsets : tie.Need-mul-offsets Inv-loop μ-loop
-mul-offsets c = search needs
-
-slice-write-offsets : tie.Need-slice-write-offsets Inv-loop μ-loop
-slice-write-offsets c = search asked-small
-
-loop-less : tie.Need-loop-less Inv-loop μ-loop
-loop-less c = search needs
-
-loop-again : tie.Need-loop-again Inv-loop μ-loop
-loop-again c = search asked-stored
-
-loop-less-2 : tie.Need-loop-less-2 Inv-loop μ-loop
-loop-less-2 c = search needs
-
-loop-again-2 : tie.Need-loop-again-2 Inv-loop μ-loop
-loop-again-2 c = search asked-skipped
-
-same-length : tie.Need-same-length Inv-loop μ-loop
+same-length : tie.Need-same-length
 same-length c = search needs
 
-returns : tie.Need-returns Inv-loop μ-loop
-returns c = search asked-ended
+returns : tie.Need-returns
+returns c = search needs
 
 pub put-asked-spec : {M : Type 1} → statement M
 put-asked-spec =
     tie.close
     (tie.spec
-    Inv-loop
-    μ-loop
-    loop-holds
-    sub-f
-    cast-if1
-    shared-slice-read-if1
-    cast-root
-    root-requires
-    cast-sync-of
-    sync-of-requires
-    cast-offsets
-    mul-offsets
-    slice-write-offsets
-    loop-less
-    loop-again
-    loop-less-2
-    loop-again-2
+    cast-put-roots
+    slice-aggregate-put-roots
+    put-roots-requires
+    slice-aggregate-put-by-roots
+    put-by-roots-requires
     same-length
     returns)
