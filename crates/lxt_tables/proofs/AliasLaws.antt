@@ -9,7 +9,7 @@ use lib.Seq.{getD-set-same, getD-set-other}
 use native.Mathlib.Omega.{arith}
 use native.Mathlib.Decide.{ℕ-discrete, decLe}
 use native.Mathlib.Numerals.{add-one}
-use borrow.Author.Tests.{lt-ltb, le-ltb, le-leb, lt-leb, leb-true}
+use borrow.Author.Tests.{lt-ltb, le-ltb, le-leb, lt-leb}
 use Rattle.lxt_format.specs.Limits.{mostFacilities}
 use Rattle.lxt_format.specs.Basics.{if_then_else_, range, all}
 use Rattle.lxt_format.specs.BasicsLaws.{on-test, all-turn, all-stop, all-end}
@@ -42,6 +42,27 @@ pub record Putting (s : List ℕ) (n : ℕ) (roots₀ : List ℕ) (f : ℕ) (roo
 -- the entries that are not known
 abbrev pub unknown : ℕ → List ℕ → ℕ → Bool
 unknown n roots g = leb n (getD roots g 0)
+
+-- ---- storing a number in a table
+
+module _ (l : List ℕ) (at v : ℕ) (h : at < length l) where
+  -- what holds of the number at its place, and of each other place as before, holds of each place
+  after-set : (P : ℕ → ℕ → Type 0) → P at v → (g : ℕ) → ((g ≡ at → ⊥) → P g (getD l g 0)) → P g (getD (set l at v) g 0)
+  after-set P here g other =
+      elim (ℕ-discrete g at) [ yes e ↦ rw (e, getD-set-same l at v 0 h) here | no o ↦ rw (getD-set-other l at g v 0 o) (other o) ]
+
+-- one entry less is not known
+pub store-less : (n at v : ℕ) (roots : List ℕ) → n ≤ length roots → at < n → v < n → n ≤ getD roots at 0
+    → passing (unknown n (set roots at v)) n < passing (unknown n roots) n
+store-less n at v roots room a b h =
+    let inside : at < length roots = omega arith in
+    let fewer : (g : ℕ) → unknown n (set roots at v) g ≡ true → unknown n roots g ≡ true =
+    λ g. after-set roots at v inside (λ g r. leb n r ≡ true → unknown n roots g ≡ true) (λ _. le-leb _ _ h) g (λ _ y. y) in
+    elim (decLe (passing (unknown n roots) n) (passing (unknown n (set roots at v)) n)) [
+      | yes l ↦ (let same = passing-same (unknown n (set roots at v)) (unknown n roots) fewer n l at a in
+          absurd (false≢true (sym (lt-leb n v b) ∙ (rw (getD-set-same roots at v 0 inside) at same) ∙ le-leb n (getD roots at 0) h)))
+      | no o ↦ omega arith
+    ]
 
 module _ (s : List ℕ) (g n : ℕ) (p : Geometry s g n) where
   -- ---- the way to a root: at `at`, with `left` facilities more
@@ -115,41 +136,22 @@ module _ (s : List ℕ) (g n : ℕ) (p : Geometry s g n) where
           }
 
       module _ (h : n ≤ getD roots at 0) where
-        stored : getD (set roots at root) at 0 ≡ root
-        stored = getD-set-same roots at root 0 (omega (arith, w .inside, w .table .room))
-
-        -- of each facility what holds of `at` and of the others
-        stored-all : (P : ℕ → ℕ → Type 0) → P at root → (g : ℕ) → ((g ≡ at → ⊥) → P g (getD roots g 0)) → P g (getD (set roots at root) g 0)
-        stored-all P here g other =
-            elim (ℕ-discrete g at) [ yes e ↦ rw (e, stored) here | no d ↦ rw (getD-set-other roots at g root 0 d) (other d) ]
-
         pub store-next : (t : ℕ) → t ≡ standsFor s at → Storing s n f root roots₀ t (set roots at root)
         store-next t et =
             let small = d .found in
+            let stored = after-set roots at root (omega (arith, w .inside, w .table .room)) in
             let way : root ≡ rootOf s t = w .way ∙ sym (stands-root at (w .inside)) ∙ rw et in
             record {
               table = record {
                 room = rw (length-set roots at root) (w .table .room);
-                right = λ g l. stored-all (λ g r. r < n → r ≡ rootOf s g) (λ _. w .way) g (λ _. w .table .right g l);
-                first = λ g l. stored-all (λ _ r. r < n) small g (λ _. w .table .first g l);
+                right = λ g l. stored (λ g r. r < n → r ≡ rootOf s g) (λ _. w .way) g (λ _. w .table .right g l);
+                first = λ g l. stored (λ _ r. r < n) small g (λ _. w .table .first g l);
               };
               long = length-set roots at root ∙ w .long;
               inside = way-inside t way;
               way = way;
-              begun = stored-all (λ g r. n ≤ r → t ≡ g) (λ l. absurd (omega arith)) f (λ o l. absurd (o (sym (w .begun l))));
+              begun = stored (λ g r. n ≤ r → t ≡ g) (λ l. absurd (omega arith)) f (λ o l. absurd (o (sym (w .begun l))));
             }
-
-        -- one entry less is not known
-        pub store-less : passing (unknown n (set roots at root)) n < passing (unknown n roots) n
-        store-less =
-            let small = d .found in
-            let fewer : (g : ℕ) → unknown n (set roots at root) g ≡ true → unknown n roots g ≡ true =
-            λ g. stored-all (λ g r. leb n r ≡ true → unknown n roots g ≡ true) (λ _. le-leb _ _ h) g (λ _ y. y) in
-            elim (decLe (passing (unknown n roots) n) (passing (unknown n (set roots at root)) n)) [
-              | yes l ↦ (let same = passing-same (unknown n (set roots at root)) (unknown n roots) fewer n l at (w .inside) in
-                  absurd (false≢true (sym (lt-leb n root small) ∙ (rw stored at same) ∙ le-leb n (getD roots at 0) h)))
-              | no o ↦ omega arith
-            ]
 
   -- ---- every facility has a root
 

@@ -7,8 +7,7 @@ use mathlib.Core.List.{List}
 use lib.Dec.{ltb}
 use native.Mathlib.Omega.{arith}
 use native.Mathlib.Decide.{ℕ-discrete, decLe}
-use borrow.Author.Tests.{ltb-true, ltb-false, lt-ltb}
-use Rattle.lxt_format.specs.Basics.{if_then_else_}
+use borrow.Author.Tests.{ltb-true, ltb-false}
 use Rattle.lxt_format.specs.BasicsLaws.{on-test}
 use Rattle.lxt_format.specs.Sections.{facilityCount}
 use Rattle.lxt_format.specs.Geometry.{rowsOf, isAlias, rootWithin, rootOf}

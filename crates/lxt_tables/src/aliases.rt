@@ -58,7 +58,7 @@ fn root_by(file: &[u8], geometry: usize, n: u32, roots: &[u32], f: u32) -> u32
         at = rows(file, geometry, n, at);
         left -= 1;
     }
-    n // no way out
+    n // the way goes round
 }
 
 // The facility that an alias stands for; any other one itself.
