@@ -168,6 +168,10 @@ module _ (s : List ℕ) (t : Tables) (asked os₀ : List ℕ) (w : Starting s t 
         let u = v .upto in
         record { upto = omega arith; long = v .long; room = v .room; here = λ g h. v .here g h ∙ rw (turn g, z); past = v .past }
 
+    -- the facility itself has a place too, so that an edit that stores there fails by what it stores
+    pub asked-itself : k - 1 < length os
+    asked-itself = omega (arith, v .upto, v .room)
+
     pub asked-root-read : k - 1 < length roots
     asked-root-read = omega (arith, v .upto, d .room)
 

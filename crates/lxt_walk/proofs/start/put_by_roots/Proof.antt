@@ -1,7 +1,7 @@
 use borrow.Author.Needs.{needs}
 use Prim.Native.Nat.{_-_}
 use native.Mathlib.Omega.{arith}
-use Rattle.lxt_walk.proofs.StartLaws.{Asking, asked-begun, asked-read, asked-root-read, asked-skipped, asked-below, asked-sync, asked-small, asked-stored, asked-ended}
+use Rattle.lxt_walk.proofs.StartLaws.{Asking, asked-begun, asked-read, asked-root-read, asked-skipped, asked-below, asked-sync, asked-small, asked-itself, asked-stored, asked-ended}
 use Rattle.lxt_walk.proofs.start.put_by_roots.Statement.{statement}
 use Rattle.lxt_walk.proofs.start.put_by_roots.Tie as tie
 
@@ -49,7 +49,7 @@ mul-offsets c =
     omega (arith, read .shared-slice-known5 .given (read .before .before .before .before .loop .f - 1))
 
 slice-write-offsets : tie.Need-slice-write-offsets Inv-loop μ-loop
-slice-write-offsets c = search asked-small
+slice-write-offsets c = search (asked-small, asked-itself)
 
 loop-less : tie.Need-loop-less Inv-loop μ-loop
 loop-less c = search needs
