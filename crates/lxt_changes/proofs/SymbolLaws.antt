@@ -15,7 +15,7 @@ use Rattle.lxt_format.specs.Basics.{range, all}
 use Rattle.lxt_format.specs.BasicsLaws.{range-all, all-range, on-test}
 use Rattle.lxt_format.specs.Bytes.{byteAt}
 use Rattle.lxt_format.specs.Changes.{commandAllowed, symbolSize, packedSize}
-use Rattle.lxt_changes.specs.Windows.{goodByte, allGood, Good, Scanned, Known, Answered}
+use Rattle.lxt_changes.specs.Windows.{goodByte, allGood, Good, Scanned, ScannedUp, Known, Answered}
 use Rattle.lxt_changes.specs.declared.symbols.Window.{Window}
 use Rattle.lxt_format.specs.declared.Kind.{Kind}
 use Rattle.lxt_format.specs.declared.Kind.the-variants.{Bits, Integer, Real, Text}
@@ -95,6 +95,33 @@ module _ (s : List ℕ) (from to p : ℕ) (w : Down s from to p) where
         good = λ i a b. elim (ℕ-discrete i (p - 1)) [ yes q ↦ rw q (sym e ∙ h) | no n ↦ w .good i (omega arith) b ];
       }
 
+-- ---- scanning up
+
+-- what holds where the bytes from `from` up to p are known to be good
+pub record Up (s : List ℕ) (from to p : ℕ) : Type 0 where
+  pub low : from ≤ p
+  pub high : p ≤ to
+  pub good : Good s from p
+
+pub begun-up : (s : List ℕ) (from to : ℕ) → from ≤ to → Up s from to from
+begun-up s from to h = record { low = omega arith; high = h; good = λ i a b. absurd (omega arith) }
+
+module _ (s : List ℕ) (from to p : ℕ) (w : Up s from to p) where
+  pub stopped-up : (z : Bool) → z ≡ goodByte (byteAt s p) → z ≡ false → ScannedUp s from to p
+  stopped-up z e h = record { low = w .low; high = w .high; good = w .good; stop = λ k. sym e ∙ h }
+
+  pub ended-up : to ≤ p → ScannedUp s from to p
+  ended-up h = record { low = w .low; high = w .high; good = w .good; stop = λ k. absurd (omega arith) }
+
+  pub turned-up : p < to → (z : Bool) → z ≡ goodByte (byteAt s p) → z ≡ true → Up s from to (p + 1)
+  turned-up k z e h =
+      let l = w .low in
+      record {
+        low = omega arith;
+        high = omega arith;
+        good = λ i a b. elim (ℕ-discrete i p) [ yes q ↦ rw q (sym e ∙ h) | no n ↦ w .good i a (omega arith) ];
+      }
+
 -- ---- windows
 
 module _ (s : List ℕ) (from to : ℕ) where
@@ -150,3 +177,30 @@ module _ (s : List ℕ) (from to : ℕ) where
 
         pub within : to ≤ w .to → Answered s (allGood s from to) (record { allowed = true; window = record { from = low; to = w .to } })
         within l = record { answer = sym all-good; known = record { good = λ i c d. joined-good i c (inl d); within = k .within } }
+
+  module _ (w : Window) (k : Known s w) (low : ℕ) (a : Scanned s from to low) where
+    pub below-bad : from < low → Answered s (allGood s from to) (record { allowed = false; window = w })
+    below-bad h =
+        record { answer = sym (bad-one (low - 1) (omega arith) (let g = a .high in omega arith) (a .stop h)); known = k }
+
+    module _ (fine : low ≤ from) (some : w .from < w .to) (high : ℕ) (b : ScannedUp s to (w .from) high) where
+      below-good : allGood s from to ≡ true
+      below-good = good-all (λ i c d. a .good i (omega arith) d)
+
+      -- the bytes from low up to where the scan of the gap ended
+      gap-good : Good s low high
+      gap-good i c d = ⊎-elim (λ l. b .good i l d) (λ l. a .good i c l) (le-or-lt to i)
+
+      pub below-apart : Answered s (allGood s from to) (record { allowed = true; window = record { from = low; to = high } })
+      below-apart = record { answer = sym below-good; known = record { good = gap-good; within = let g = b .high in let h = k .within in omega arith } }
+
+      pub below-joined : w .from ≤ high → Answered s (allGood s from to) (record { allowed = true; window = record { from = low; to = w .to } })
+      below-joined h =
+          record {
+            answer = sym below-good;
+            known =
+                record {
+                  good = λ i c d. ⊎-elim (λ l. k .good i l d) (λ l. gap-good i c (omega arith)) (le-or-lt (w .from) i);
+                  within = k .within;
+                };
+          }

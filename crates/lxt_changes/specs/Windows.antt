@@ -31,6 +31,13 @@ pub record Scanned (s : List ℕ) (from to r : ℕ) : Type 0 where
   pub stop : from < r → goodByte (byteAt s (r - 1)) ≡ false
   pub low : from ≤ to → from ≤ r
 
+-- what a scan from `from` up to `to` found: the bytes below r are good, and the scan ended there
+pub record ScannedUp (s : List ℕ) (from to r : ℕ) : Type 0 where
+  pub low : from ≤ r
+  pub high : r ≤ to
+  pub good : Good s from r
+  pub stop : r < to → goodByte (byteAt s r) ≡ false
+
 -- the bytes of a window are good
 pub record Known (s : List ℕ) (w : Window) : Type 0 where
   pub good : Good s (w .from) (w .to)

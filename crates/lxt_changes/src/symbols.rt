@@ -7,7 +7,7 @@ ghost use lib.Dec.{ltb, leb};
 ghost use lib.ListN.{length};
 ghost use Rattle.lxt_format.specs.Limits.{widestFacility};
 ghost use Rattle.lxt_format.specs.Changes.{commandAllowed, symbolSize, packedSize, codesAllowed};
-ghost use Rattle.lxt_changes.specs.Windows.{goodByte, allGood, Scanned, Known, Answered, Data};
+ghost use Rattle.lxt_changes.specs.Windows.{goodByte, allGood, Scanned, ScannedUp, Known, Answered, Data};
 use lxt_format::Kind;
 
 // The two highest bits are 0, and the command is one of the kind's.
@@ -70,6 +70,21 @@ fn good_from(file: &[u8], from: usize, to: usize) -> usize
     p
 }
 
+// The first offset from `from` on whose byte is not good; `to` where there is none below it.
+fn good_to(file: &[u8], from: usize, to: usize) -> usize
+    requires { ⌜ (from ≤ to) × (to ≤ length (now file)) ⌝ }
+    ensures { λ r. ⌜ ScannedUp (now (file .entry)) from to r ⌝ }
+{
+    let mut p = from;
+    while p < to {
+        if !good(file[p]) {
+            return p;
+        }
+        p += 1;
+    }
+    p
+}
+
 // The bytes from `from` up to `to` are known to be good.
 pub struct Window {
     pub from: usize,
@@ -82,14 +97,16 @@ pub struct Checked {
     pub window: Window,
 }
 
-// All bytes from `from` up to `to` are good. Where they meet the window, only those outside it are read:
-// the changes of a chain fall, so that each byte is read about once.
+// All bytes from `from` up to `to` are good. Where they meet the window, only those outside it are read;
+// where they end below it, the gap is read too, and the window is kept if the gap is good. Changes are
+// visited as their offsets fall, so that each byte is read about once, although the changes of several
+// chains, narrow and wide ones, are interleaved.
 fn all_good(file: &[u8], w: Window, from: usize, to: usize) -> Checked
     requires { ⌜ Known (now file) w × ((from ≤ to) × (to ≤ length (now file))) ⌝ }
     ensures { λ r. ⌜ Answered (now (file .entry)) (allGood (now (file .entry)) from to) r ⌝ }
 {
     if to < w.from {
-        return all_good_anew(file, from, to);
+        return all_good_below(file, w, from, to);
     }
     if w.to < from {
         return all_good_anew(file, from, to);
@@ -112,6 +129,42 @@ fn all_good(file: &[u8], w: Window, from: usize, to: usize) -> Checked
         return Checked {
             allowed: true,
             window: Window { from: low, to: to },
+        };
+    }
+    Checked {
+        allowed: true,
+        window: Window {
+            from: low,
+            to: w.to,
+        },
+    }
+}
+
+// The same below the window: the new one goes on upward to the first byte that is not good, or joins the
+// old one. Data that starts below such a byte and reaches past it is not good, so what is known above it
+// may be forgotten. Of an empty window there is nothing to keep.
+fn all_good_below(file: &[u8], w: Window, from: usize, to: usize) -> Checked
+    requires { ⌜ Known (now file) w × ((from ≤ to) × ((to < w .from) × (to ≤ length (now file)))) ⌝ }
+    ensures { λ r. ⌜ Answered (now (file .entry)) (allGood (now (file .entry)) from to) r ⌝ }
+{
+    if w.to <= w.from {
+        return all_good_anew(file, from, to);
+    }
+    let low = good_from(file, from, to);
+    if from < low {
+        return Checked {
+            allowed: false,
+            window: w,
+        };
+    }
+    let high = good_to(file, to, w.from);
+    if high < w.from {
+        return Checked {
+            allowed: true,
+            window: Window {
+                from: low,
+                to: high,
+            },
         };
     }
     Checked {

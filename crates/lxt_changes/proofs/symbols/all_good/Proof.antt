@@ -3,14 +3,14 @@ use borrow.Author.Needs.{needs}
 use Rattle.lxt_changes.proofs.symbols.all_good.Statement.{statement}
 use Rattle.lxt_changes.proofs.symbols.all_good.Tie as tie
 
-all-good-anew-requires : tie.Need-all-good-anew-requires
-all-good-anew-requires c κs = search needs
+all-good-below-requires : tie.Need-all-good-below-requires
+all-good-below-requires c κs = search needs
 
 returns : tie.Need-returns
 returns c = search needs
 
-all-good-anew-requires-2 : tie.Need-all-good-anew-requires-2
-all-good-anew-requires-2 c κs = search needs
+all-good-anew-requires : tie.Need-all-good-anew-requires
+all-good-anew-requires c κs = search needs
 
 returns-2 : tie.Need-returns-2
 returns-2 c = search needs
@@ -42,9 +42,9 @@ pub all-good-spec : {M : Type 1} → statement M
 all-good-spec =
     tie.close
     (tie.spec
-    all-good-anew-requires
+    all-good-below-requires
     returns
-    all-good-anew-requires-2
+    all-good-anew-requires
     returns-2
     good-from-requires
     returns-3
