@@ -37,15 +37,20 @@ pub fn alias_line(shape: Shape, n: usize, random: &mut Random) -> Vec<Geometry> 
     geometry
 }
 
-/// The facility that an alias leads to, by at most n steps.
+/// The aliases from a facility to its root, and that.
+fn line(geometry: &[Geometry], facility: usize) -> impl Iterator<Item = usize> + '_ {
+    std::iter::successors(Some(facility), |at| {
+        let [target, _, _, flags] = geometry[*at];
+        (flags & 8 != 0).then_some(target as usize)
+    })
+}
+
 fn root_of(geometry: &[Geometry], facility: usize) -> usize {
-    let mut root = facility;
-    for _ in 0..geometry.len() {
-        if geometry[root][3] & 8 != 0 {
-            root = geometry[root][0] as usize;
-        }
-    }
-    root
+    line(geometry, facility).last().unwrap_or(facility)
+}
+
+fn steps_to_root(geometry: &[Geometry], facility: usize) -> usize {
+    line(geometry, facility).count()
 }
 
 /// Aliases that lead to roots, or in one place to a ring of any length or out of bounds.
@@ -70,13 +75,10 @@ pub fn aliases(seed: u64) -> Case {
             *facility = random.pick(&[bits(1), bits(9), INTEGER, REAL, TEXT]);
         }
     }
-    let expected = match random.below(3) {
-        0 => Ok(()),
-        _ => Err(12),
+    let (end, expected) = match random.below(3) {
+        0 => ("roots", Ok(())),
+        _ => (damage(random, &mut geometry), Err(12)),
     };
-    if expected.is_err() {
-        damage(random, &mut geometry);
-    }
     // What an alias ignores.
     for facility in &mut geometry {
         if facility[3] == 8 && random.chance(1, 2) {
@@ -100,30 +102,44 @@ pub fn aliases(seed: u64) -> Case {
         }
     }
     Case {
-        origin: format!("aliases {shape:?}"),
+        origin: format!("aliases {shape:?}, {end}"),
         bytes: draft.bytes(),
         expected: Some(expected),
     }
 }
 
-/// Leads one facility out of bounds, or into a ring of one, of two, of some or of all that lead to it.
-fn damage(random: &mut Random, geometry: &mut [Geometry]) {
+/// Leads one facility out of bounds, or into a ring of one, of two, of some or of all that lead to it. Tells
+/// which.
+fn damage(random: &mut Random, geometry: &mut [Geometry]) -> &'static str {
     let n = geometry.len();
-    let place = random.below(n);
-    match random.below(3) {
+    let mut place = random.below(n);
+    match random.below(4) {
         0 => {
-            let past = random.pick(&[n, n, n + 1, u32::MAX as usize]);
-            geometry[place] = alias(past);
+            geometry[place] = alias(random.pick(&[n, n, n + 1, u32::MAX as usize]));
+            return "out of bounds";
         }
-        1 => {
-            // The root of any becomes an alias of it.
-            let root = root_of(geometry, place);
-            geometry[root] = alias(place);
-        }
-        _ => {
-            let other = if n > 1 { (place + 1) % n } else { place };
+        1 => geometry[place] = alias(place),
+        2 => {
+            let other = (place + 1) % n;
             geometry[place] = alias(other);
             geometry[other] = alias(place);
         }
+        _ => {
+            // The root of the farthest, or of any, becomes an alias of it.
+            let steps = |facility: &usize| steps_to_root(geometry, *facility);
+            let farthest = (0..n).max_by_key(steps).unwrap_or(place);
+            place = random.pick(&[farthest, place]);
+            geometry[root_of(geometry, place)] = alias(place);
+        }
+    }
+    // Back to the place.
+    let next = |facility: &usize| Some(geometry[*facility][0] as usize);
+    let others = std::iter::successors(next(&place), next).take_while(|it| *it != place);
+    let length = 1 + others.count();
+    match length {
+        1 => "a ring of one",
+        2 => "a ring of two",
+        _ if length == n => "a ring of all",
+        _ => "a longer ring",
     }
 }

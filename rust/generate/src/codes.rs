@@ -64,7 +64,7 @@ pub fn codes(seed: u64) -> Case {
         covered[value.codes.clone()].fill(true);
     }
     let head = |nibble: usize| is_head.get(nibble).copied().unwrap_or(false);
-    for (nibble, covered) in covered.into_iter().enumerate().skip(2 * from) {
+    for (nibble, covered) in covered.iter().enumerate().skip(2 * from) {
         if !head(nibble) {
             let code = match covered {
                 true => random.pick(&[0, 8, 8, random.clone().below(9)]),
@@ -75,13 +75,10 @@ pub fn codes(seed: u64) -> Case {
         }
     }
 
-    let with_codes: Vec<&Value> = values.iter().filter(|it| !it.codes.is_empty()).collect();
     let mut bad = None;
-    if !with_codes.is_empty() && random.chance(1, 2) {
-        let codes = &with_codes[random.below(with_codes.len())].codes;
-        let any = codes.start + random.below(codes.len());
-        let nibble = random.pick(&[codes.start, codes.end - 1, any]);
-        bad = (!head(nibble)).then_some(nibble);
+    if random.chance(1, 2) {
+        let nibble = to_spoil(random, &values);
+        bad = nibble.filter(|it| covered.get(*it) == Some(&true) && !head(*it));
     }
     if let Some(nibble) = bad {
         set_nibble(&mut draft, nibble, random.within(9, 15) as u8);
@@ -98,6 +95,19 @@ pub fn codes(seed: u64) -> Case {
         bytes: draft.bytes(),
         expected: Some(expected),
     }
+}
+
+/// A nibble of a value: the first, the last or any; or one right behind it, where another value may lie.
+fn to_spoil(random: &mut Random, values: &[Value]) -> Option<usize> {
+    let with_codes = values.iter().filter(|it| !it.codes.is_empty());
+    let with_codes: Vec<&Value> = with_codes.collect();
+    if with_codes.is_empty() {
+        return None;
+    }
+    let codes = &with_codes[random.below(with_codes.len())].codes;
+    let any = codes.start + random.below(codes.len());
+    let behind = codes.end + random.below(6);
+    Some(random.pick(&[codes.start, codes.end - 1, any, codes.end, behind, behind]))
 }
 
 fn set_nibble(draft: &mut Draft, nibble: usize, code: u8) {

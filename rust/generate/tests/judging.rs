@@ -289,7 +289,9 @@ fn aliases_lead_to_roots_or_not() {
             );
         }
     }
-    met.least(50);
+    met.least(5);
+    met.least_of("aliases Upwards, a ring of all: 12", 40);
+    met.least_of("aliases Downwards, a ring of all: 12", 40);
 }
 
 /// What records can point to in a file.
