@@ -274,20 +274,26 @@ fn chains_of_all_kinds(total: usize, at_fault: AtFault) -> Hostile {
     with_starts(name, draft, &starts, at_fault.answers(), false)
 }
 
-/// Each root's own chain; two of them share a byte, in their lowest changes.
-fn share_at_the_bottom(total: usize, n: usize) -> Hostile {
+/// Each root's own chain; all changes touch, and in their lowest ones two of them may share a byte.
+fn touching(total: usize, n: usize, shared: bool) -> Hostile {
     let mut draft = tables(&vec![bits(1); n]);
     // The lowest delta byte of the first is the command byte of the second.
     while (draft.end() - 2) % 256 != 0x33 {
         draft.append(&[0]);
     }
     let first = bottom(&mut draft, 0x03, &[]);
-    draft.body.pop();
+    if shared {
+        draft.body.pop();
+    }
     let mut lowest = vec![first];
     lowest.extend((1..n).map(|_| bottom(&mut draft, 0x03, &[])));
     let starts = rounds(&mut draft, total, &lowest, 0x04, 0);
-    let name = format!("{} chains that share a byte at the bottom", counted(n));
-    with_starts(name, draft, &starts, [Err(17), Ok(())], false)
+    let (what, judged) = match shared {
+        true => ("share a byte at the bottom", Err(17)),
+        false => ("touch", Ok(())),
+    };
+    let name = format!("{} chains that {what}", counted(n));
+    with_starts(name, draft, &starts, [judged, Ok(())], false)
 }
 
 /// Each root's own chain, of values that all run over each other.
@@ -300,35 +306,57 @@ fn overlapping_rounds(total: usize) -> Hostile {
     with_starts(name, draft, &starts, [Err(17), Ok(())], false)
 }
 
-/// Equal bytes are changes at every offset: as many chains as the stride, which share no offset.
-fn equal_bytes(total: usize, stride: usize) -> Hostile {
-    let mut draft = tables(&vec![bits(64); stride]);
-    let lowest: Vec<usize> = (0..stride).map(|_| bottom(&mut draft, 0x03, &[])).collect();
-    // Links of two bytes lead down to these, and the lowest of the equal bytes to the links.
-    let mut starts = Vec::new();
+/// The bottoms of as many chains as the stride, links down to them, and bytes above which equal bytes, each 2
+/// less than the stride, are changes at every offset. Gives that byte.
+fn below_equal_bytes(draft: &mut Draft, stride: usize) -> u8 {
+    let lowest: Vec<usize> = (0..stride).map(|_| bottom(draft, 0x03, &[])).collect();
     for low in lowest {
         let offset = draft.end();
         draft.append(&change_bytes(offset, low, 0x03, 1, &[]));
-        starts.push(offset);
     }
     let byte = stride as u8 - 2;
     draft.append(&[byte]);
+    // Deltas to the links, which are two bytes apart.
     for place in 0..stride {
         draft.append(&[(2 * stride - place - 2) as u8]);
     }
-    let above = draft.end();
+    byte
+}
+
+/// Equal bytes are changes at every offset: as many chains as the stride, which share no offset.
+fn equal_bytes(total: usize, stride: usize) -> Hostile {
+    let mut draft = tables(&vec![bits(64); stride]);
+    let byte = below_equal_bytes(&mut draft, stride);
     let room = room(&draft, total);
     draft.append(&vec![byte; room]);
     let top = draft.end() - 40;
-    let newest = (0..stride).map(|root| top - (top - above) % stride - root);
+    let starts: Vec<usize> = (0..stride).map(|root| top - root).collect();
     let name = format!("{stride} chains of stride {stride} over each other");
-    with_starts(
-        name,
-        draft,
-        &Vec::from_iter(newest),
-        [Err(17), Ok(())],
-        false,
-    )
+    with_starts(name, draft, &starts, [Err(17), Ok(())], false)
+}
+
+/// Changes at every offset on chains of a large stride, by bytes 10, which share no offset. Below they lead
+/// to two chains of zeros, whose lowest changes have commands that integers have not.
+fn every_offset(total: usize, at_fault: AtFault) -> Hostile {
+    let stride = 0x1010 + 2;
+    let n = most_facilities(total);
+    let form = |root: usize| match root == at_fault.root(n) {
+        true => INTEGER,
+        false => bits(64),
+    };
+    let mut draft = tables(&Vec::from_iter((0..n).map(form)));
+    let zero = below_equal_bytes(&mut draft, 2);
+    draft.append(&vec![zero; stride]);
+    let room = room(&draft, total);
+    draft.append(&vec![0x10; room]);
+    let top = draft.end() - 40;
+    let starts: Vec<usize> = (0..n).map(|root| top - root).collect();
+    let name = format!(
+        "a change at every offset, {} chains of stride 4,114, {}",
+        counted(n),
+        at_fault.name()
+    );
+    with_starts(name, draft, &starts, at_fault.answers(), false)
 }
 
 /// Each chain has the double stride of the one before; their values run over each other.
@@ -458,14 +486,20 @@ pub fn hostile_chains(total: usize) -> impl Iterator<Item = Hostile> {
         |total| chains_apart(total, Nobody),
         |total| chains_apart(total, First),
         |total| chains_apart(total, Last),
-        |total| share_at_the_bottom(total, 2),
-        |total| share_at_the_bottom(total, most_facilities(total)),
+        |total| touching(total, 2, false),
+        |total| touching(total, most_facilities(total), false),
+        |total| touching(total, 2, true),
+        |total| touching(total, most_facilities(total), true),
         overlapping_rounds,
         |total| equal_bytes(total, 2),
         |total| equal_bytes(total, 3),
         |total| equal_bytes(total, 4),
         |total| equal_bytes(total, 5),
         |total| equal_bytes(total, 6),
+        |total| every_offset(total, Nobody),
+        |total| every_offset(total, First),
+        |total| every_offset(total, Middle),
+        |total| every_offset(total, Last),
         doubled_strides,
         |total| wide_and_narrow(total, true, Nobody),
         |total| wide_and_narrow(total, false, Nobody),
