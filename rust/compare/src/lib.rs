@@ -13,6 +13,8 @@ use std::fs;
 use std::ops::Range;
 use std::path::Path;
 
+use lxt_generate::Case;
+
 /// The traces of the folder by name, those of at most so many bytes.
 pub fn traces(longest: usize) -> Vec<(String, Vec<u8>)> {
     let folder = Path::new(env!("CARGO_MANIFEST_DIR")).join("../../traces");
@@ -39,6 +41,17 @@ pub fn generated(seeds: Range<u64>, longest: usize) -> impl Iterator<Item = (Str
         (case.bytes.len() <= longest).then_some((what, case.bytes))
     })
 }
+
+/// A making of files by seeds, with its name.
+pub type Making = (&'static str, fn(u64) -> Case);
+
+/// The makings of files for judging fast.
+pub const MADE: [Making; 4] = [
+    ("edges", lxt_generate::edges),
+    ("joined", lxt_generate::joined),
+    ("codes", lxt_generate::codes),
+    ("aliases", lxt_generate::aliases),
+];
 
 /// The nine calls.
 pub const CALLS: [&str; 9] = [
@@ -102,6 +115,9 @@ impl Compared {
         }
         if file.len() <= 3_000 {
             walk::altered_records(file, what, &mut self.walks);
+        }
+        if file.len() <= 60_000 {
+            walk::pending_anywhere(file, what, &mut self.walks);
         }
     }
 

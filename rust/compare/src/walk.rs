@@ -1,6 +1,10 @@
 //! The proved walk against the independent reader and against lists of changes: every answer, and
 //! every pair and number of the lent memory and around it.
 
+mod records;
+
+pub use records::{landmarks, pending_anywhere};
+
 use std::collections::{BTreeMap, BTreeSet};
 
 use lxt::{Pair, Refusal};

@@ -1,6 +1,9 @@
 //! Files made to be slow or to wrap, and files at the limits.
 
+mod chains;
 mod long_times;
+
+pub use chains::{hostile_chains, Hostile};
 
 use crate::draft::{change_bytes, Draft};
 use crate::tables::{alias, append_tables, bits, Geometry, INTEGER, REAL, TEXT};

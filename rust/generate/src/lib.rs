@@ -3,22 +3,32 @@
 
 #![forbid(unsafe_code)]
 
+mod aliases;
+mod codes;
 mod damage;
 mod dense;
 mod draft;
+mod edges;
 mod hostile;
+mod joined;
 mod large;
 mod random;
+mod records;
 mod tables;
 mod times;
 mod valid;
 
+pub use aliases::aliases;
+pub use codes::codes;
 pub use damage::{blind, clean_and_dirty, Damage, Neighbours, DAMAGES};
 pub use dense::dense;
 pub use draft::{change_bytes, Change, Draft, Facility, Kind, Meant};
-pub use hostile::{hostile, hostile_large, most_visits, widest_sharing};
+pub use edges::{edges, WINDOW};
+pub use hostile::{hostile, hostile_chains, hostile_large, most_visits, widest_sharing, Hostile};
+pub use joined::joined;
 pub use large::{large, Large};
 pub use random::Random;
+pub use records::{record, Landmarks, Pending};
 pub use times::{head_length, other_times, time_length, LONG_TIMES, SHORT_TIMES};
 pub use valid::{pack, valid, valid_of, Shape, REAL_TEST};
 
@@ -32,10 +42,10 @@ pub struct Case {
 }
 
 /// A file for any seed: valid, with clean or dirty padding, near a boundary, over it, over two boundaries,
-/// dense, or blindly damaged.
+/// dense, blindly damaged, or of changes that meet, chains that join, codes or aliases.
 pub fn case(seed: u64) -> Case {
     let mut random = Random::new(seed ^ 0x4C58_5400_0000_0000);
-    match random.below(20) {
+    match random.below(24) {
         0..=3 => Case {
             origin: "valid".to_string(),
             bytes: valid(random.any()).bytes(),
@@ -64,6 +74,10 @@ pub fn case(seed: u64) -> Case {
             bytes: dense(random.any()).bytes(),
             expected: None,
         },
+        17 => edges(random.any()),
+        18 | 19 => joined(random.any()),
+        20 => codes(random.any()),
+        21 => aliases(random.any()),
         _ => {
             let base = valid(random.any());
             Case {

@@ -2,7 +2,7 @@
 
 use lxt_compare::judge::{compare, Seen, TRACE};
 use lxt_compare::times::small_trace_09;
-use lxt_compare::traces;
+use lxt_compare::{traces, MADE};
 
 /// The small trace, with 32-bit times and with 64-bit times.
 fn small_traces() -> [(&'static str, Vec<u8>); 2] {
@@ -104,4 +104,69 @@ fn hostile_files_are_judged_alike() {
     println!("{seen:?}");
     assert!(seen.times.shared >= 5, "{seen:?}");
     assert!(seen.times.long >= 40, "{seen:?}");
+}
+
+/// Changes that meet, chains that join, codes over each other, and aliases.
+#[test]
+fn files_made_for_judging_fast_are_judged_alike() {
+    for (name, make) in MADE {
+        let mut seen = Seen::default();
+        for seed in 500_000..503_000 {
+            let case = make(seed);
+            let what = format!("{name} of seed {seed}, {}", case.origin);
+            compare(&case.bytes, &what, &mut seen);
+        }
+        println!("{name} {:?}", seen.answers);
+        let met: &[u8] = match name {
+            "edges" => &[0, 17],
+            "joined" => &[15, 16, 17],
+            "codes" => &[0, 16, 17],
+            _ => &[0, 12],
+        };
+        for number in met {
+            assert!(seen.answers[number] >= 100, "{name} {seen:?}");
+        }
+    }
+}
+
+#[test]
+fn hostile_chains_are_judged_alike() {
+    let mut seen = Seen::default();
+    for total in [20_000, 65_536] {
+        for hostile in lxt_generate::hostile_chains(total) {
+            let what = format!("{}, {total} bytes", hostile.case.origin);
+            compare(&hostile.case.bytes, &what, &mut seen);
+        }
+    }
+    // 4,096 facilities.
+    for hostile in lxt_generate::hostile_chains(100_000) {
+        if hostile.case.origin.starts_with("4,096 facilities") {
+            compare(&hostile.case.bytes, &hostile.case.origin, &mut seen);
+        }
+    }
+    println!("{:?}", seen.answers);
+    for number in [0, 12, 16, 17] {
+        assert!(seen.answers[&number] >= 4, "{seen:?}");
+    }
+}
+
+/// Those of the longest file, with thousands of roots: judged and carried on with as they are made to be.
+#[test]
+#[ignore = "takes minutes"]
+fn the_longest_hostile_chains() {
+    for hostile in lxt_generate::hostile_chains(16_777_216) {
+        let name = &hostile.case.origin;
+        let file = &hostile.case.bytes;
+        let judged = lxt::judge(file).map(|_| ()).map_err(|it| it.number());
+        assert_eq!(Some(judged), hostile.case.expected, "{name}");
+        let pairs = hostile.pending.iter().enumerate();
+        let pairs = pairs.map(|(number, offset)| lxt::Pair {
+            number: number as u32,
+            offset: *offset,
+        });
+        let mut pairs = Vec::from_iter(pairs);
+        let carried = lxt::carry_on(file, &mut pairs, 64, &mut [0; 128]);
+        let carried = carried.map(|_| ()).map_err(|it| it.number());
+        assert_eq!(carried, hostile.carried_on, "{name}");
+    }
 }

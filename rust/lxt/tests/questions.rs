@@ -130,3 +130,33 @@ fn hostile_files() {
     let [below, _, asked @ ..] = seen.outside();
     assert!(below > 0 && asked.iter().all(|count| *count > 0));
 }
+
+/// Lines, trees and rings of aliases: of most files every facility is asked about.
+#[test]
+fn aliases_answer_as_their_roots() {
+    let mut seen = Seen::default();
+    let all = Most {
+        facilities: 60,
+        changes: 2,
+    };
+    for seed in 700_000..700_400 {
+        let case = lxt_generate::aliases(seed);
+        let what = format!("aliases of seed {seed}, {}", case.origin);
+        compare(&case.bytes, &what, all, &mut seen);
+    }
+    for hostile in lxt_generate::hostile_chains(100_000) {
+        let file = &hostile.case.bytes;
+        if hostile.case.origin.starts_with("4,096 facilities") {
+            for facility in [0, 1, 2_048, 4_095, 4_096] {
+                let root = lxt::root(file, facility).map_err(|it| it.number());
+                let expected = lxt_reference::root(file, facility);
+                assert_eq!(root, expected, "{}", hostile.case.origin);
+            }
+        }
+    }
+    seen.report("aliases");
+    assert!(seen.count("root", "number", 0) >= 1_000);
+    for question in QUESTIONS {
+        assert!(seen.count(question, "refused", 12) >= 200, "{question}");
+    }
+}

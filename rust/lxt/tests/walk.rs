@@ -2,7 +2,8 @@
 //! every pair and number of the lent memory and around it.
 
 use lxt_compare::walk::*;
-use lxt_compare::{generated, traces};
+use lxt_compare::{generated, traces, MADE};
+use lxt_generate::Pending;
 use lxt_reference::{Fault, RecordFault, Tables};
 
 #[test]
@@ -173,4 +174,59 @@ fn hostile_files() {
     seen.report("hostile");
     seen.least("carry on", "done false", 10);
     seen.least("carry on", "20 of a hostile file", 8);
+}
+
+/// Records with pending offsets on one chain, within chains, beside changes and around edges, over files of
+/// changes that meet, chains that join and codes over each other.
+#[test]
+fn records_over_files_made_for_judging_fast() {
+    for (name, make) in MADE {
+        let mut seen = Seen::default();
+        for seed in 600_000..601_000 {
+            let case = make(seed);
+            let what = format!("{name} of seed {seed}, {}", case.origin);
+            whole_walks(&case.bytes, &what, &mut seen);
+            pending_anywhere(&case.bytes, &what, &mut seen);
+        }
+        seen.report(name);
+        for pending in Pending::ALL {
+            let aliases = name == "aliases";
+            match pending {
+                Pending::OwnChain => seen.least_met("OwnChain carried on", 100),
+                Pending::OfAnAlias if aliases => seen.least_met("OfAnAlias refused 20", 100),
+                Pending::OfAnAlias => {}
+                _ if aliases => {}
+                _ => {
+                    seen.least_met(&format!("{pending:?} refused 20"), 10);
+                    seen.least_met(&format!("{pending:?} carried on"), 5);
+                }
+            }
+        }
+    }
+}
+
+/// Carrying on over hostile files with the record that leads all roots into the chains, and with the records
+/// that lead only the first roots there.
+#[test]
+fn hostile_chains() {
+    let mut seen = Seen::default();
+    for total in [20_000, 65_536] {
+        for hostile in lxt_generate::hostile_chains(total) {
+            let what = format!("{}, {total} bytes", hostile.case.origin);
+            let mut calls = Calls::new(&hostile.case.bytes, &what, &mut seen);
+            calls.by_list = false;
+            let n = hostile.pending.len();
+            for led in [1, n / 2, n - 1, n] {
+                let offset = |it: usize| if it < led { hostile.pending[it] } else { 0 };
+                let pairs: Vec<(u32, u32)> = (0..n).map(|it| (it as u32, offset(it))).collect();
+                let (answer, _) = calls.carry_on(&mut record_of(&pairs, 1), 300, 600);
+                if led == n {
+                    assert_eq!(answer.map(|_| ()), hostile.carried_on, "{what}");
+                }
+            }
+        }
+    }
+    seen.report("hostile chains");
+    seen.least("carry on", "done false", 40);
+    seen.least("carry on", "20 of a hostile file", 20);
 }

@@ -3,6 +3,7 @@
 use crate::chains::{ChainFollower, ChangeReader, Fault};
 use crate::questions::Judged;
 use crate::tables::{read_tables, Trace};
+use crate::Facts;
 use std::cmp::Reverse;
 use std::collections::BinaryHeap;
 
@@ -206,6 +207,19 @@ impl Downwards<'_> {
             }
         }
         (chain, None)
+    }
+
+    /// Start and end of each change of a root's chain from this one down to its end or its first fault.
+    pub fn spans(&self, root: usize, from: u32) -> Vec<(u32, u32)> {
+        let (chain, _) = self.sound_part(root, from);
+        let read = |offset: &u32| self.reader.read(&self.trace.facts[root], *offset).ok();
+        let changes = chain.iter().filter_map(read);
+        changes.map(|change| (change.offset, change.end)).collect()
+    }
+
+    /// The facts of a root.
+    pub fn facts(&self, root: usize) -> Facts {
+        self.trace.facts[root]
     }
 
     /// What a record of at least n pairs is to hand out: the chain of each pending offset, all pairs by

@@ -7,7 +7,9 @@
 //! ```
 
 use lxt::Pair;
-use lxt_reference::Judged;
+use lxt_compare::walk::landmarks;
+use lxt_generate::{record, Pending, Random};
+use lxt_reference::{Judged, Tables};
 
 /// A piece of the heap of exactly so many items.
 fn exact<T: Clone>(item: T, count: usize) -> Box<[T]> {
@@ -53,6 +55,33 @@ fn all_calls(file: &[u8]) -> u64 {
             calls += 1;
         }
         calls += 1;
+    }
+    calls + made_records(&file)
+}
+
+/// Carries on over records that no start wrote, where the tables are sound, and gives how many calls that is.
+fn made_records(file: &[u8]) -> u64 {
+    let Ok(tables) = Tables::new(file) else {
+        return 0;
+    };
+    let landmarks = landmarks(&tables);
+    let mut random = Random::new(file.len() as u64);
+    let mut calls = 0;
+    for pending in Pending::ALL {
+        let Some(pairs) = record(&mut random, &landmarks, pending) else {
+            continue;
+        };
+        let sound = tables.downwards().rest(&pairs).is_ok();
+        let pairs = pairs.iter().map(|(number, offset)| Pair {
+            number: *number,
+            offset: *offset,
+        });
+        let mut pairs = Vec::from_iter(pairs).into_boxed_slice();
+        for (size, room) in [(1, 2), (300, 600)] {
+            let answer = lxt::carry_on(file, &mut pairs, size, &mut exact(0, room));
+            assert_eq!(answer.is_ok(), sound);
+            calls += 1;
+        }
     }
     calls
 }

@@ -1,10 +1,10 @@
 //! Measures the proved functions beside the independent reader, and prints tables:
 //!
 //! ```text
-//! cargo run --release --offline -p lxt-compare --bin bench [ratios] [growth] [hostile] [longest] [stack]
+//! cargo run --release --offline -p lxt-compare --bin bench [ratios] [growth] [hostile] [stack]
 //! ```
 //!
-//! Without a word it makes all parts but `longest`, which takes many minutes.
+//! Without a word it makes all parts.
 //!
 //! Both sides get the same bytes and the same questions, and each call of either makes all checks of the
 //! file that the rules ask of it. What is lent is made before the clock starts. The runs of the two sides
@@ -18,15 +18,11 @@ mod timing;
 
 fn main() {
     let words: Vec<String> = std::env::args().skip(1).collect();
-    let asked = |part: &str| match words.is_empty() {
-        true => part != "longest",
-        false => words.iter().any(|word| word == part),
-    };
+    let asked = |part: &str| words.is_empty() || words.iter().any(|word| word == part);
     for (part, print) in [
         ("ratios", ratios::print as fn()),
         ("growth", growth::print),
         ("hostile", hostile::print),
-        ("longest", hostile::print_longest),
         ("stack", stack::print),
     ] {
         if asked(part) {
