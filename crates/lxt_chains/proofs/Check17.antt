@@ -46,7 +46,7 @@ module _ (q : Pair → Bool) where
       and-left false false c = refl
 
   -- the same of a sorted list
-  all-sort : (l : List Pair) → all q (sort l) ≡ all q l
+  pub all-sort : (l : List Pair) → all q (sort l) ≡ all q l
   unfolding all sort
   all-sort [] = refl
   all-sort (p ∷ l) = rw (all-insert p (sort l), all-sort l)

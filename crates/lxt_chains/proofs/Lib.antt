@@ -6,6 +6,15 @@ pub mod Check17
 pub mod Accepted
 pub mod ChainLaws
 pub mod TreeLaws
+pub mod WindowLaws
+pub mod SweepLaws
+pub mod GroupLawsFaults
+pub mod PassLaws
+pub mod GroupLaws
+pub mod GroupLawsSlots
+pub mod GroupLawsPass
+pub mod GroupLawsStart
 pub mod NextLaws
-pub mod ApartLaws
+pub mod RootLaws
+pub mod FittingLaws
 pub mod WholeWays

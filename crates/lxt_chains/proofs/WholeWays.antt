@@ -1,19 +1,32 @@
 -- A law for each way out of the checks of a whole file.
-use Prim.Native.Nat.{ℕ, _≤_}
+use Prim.Native.Nat.{ℕ, zero, suc, _+_, _-_, _/_, _≤_, _<_}
 use mathlib.Core.Path.{_≡_, sym, _∙_}
 use mathlib.Core.Bool.{Bool, true, false}
-use mathlib.Core.List.{List}
-use lib.ListN.{length}
+use mathlib.Core.List.{List, map}
+use lib.ListN.{length, getD, List·getD-eq-default}
 use native.Mathlib.Omega.{arith}
-use Rattle.lxt_format.specs.Basics.{_unless_, _orElse_}
-use Rattle.lxt_format.specs.BasicsLaws.{stops}
-use Rattle.lxt_format.specs.Judge.{tablesRefusal, chainsRefusal, changesApart, fileRefusal, allClean}
+use native.Mathlib.Decide.{decLe, ℕ-discrete}
+use Rattle.lxt_format.specs.Basics.{if_then_else_, range, firstFault}
+use Rattle.lxt_format.specs.BasicsLaws.{on-test, on-zero, stops, fault-next, fault-here}
+use Rattle.lxt_format.specs.Sections.{facilityCount}
+use Rattle.lxt_format.specs.Geometry.{isAlias, rootsOf}
+use Rattle.lxt_format.specs.ChangesLaws.{faults-none}
+use Rattle.lxt_format.specs.Judge.{tablesRefusal, signalOf, faultFrom, chainsRefusal, changesApart, fileRefusal, allClean}
 use Rattle.lxt_tables.specs.Stage.{tablesOf}
 use Rattle.lxt_tables.specs.declared.Tables.{Tables}
 use Rattle.lxt_tables.proofs.TablesLaws.{known, refusal-is}
 use Rattle.lxt_changes.specs.Faults.{LastZero, Tells}
 use Rattle.lxt_changes.specs.declared.fault.Verdict.{Verdict}
-use Rattle.lxt_chains.specs.Reading.{Ready, Judged}
+use Rattle.lxt_chains.specs.Pending.{rootOffsets}
+use Rattle.lxt_chains.specs.Reading.{Ready, Judged, facilityFault, facilityClean, rootOffset, FirstOffsets, RootFault, Lowest, Between, Broken, chainsVerdict}
+use Rattle.lxt_chains.specs.Sweep.{Swept-all}
+use Rattle.lxt_chains.specs.Groups.{Decides, Roots, ChainFault}
+use Rattle.lxt_chains.proofs.Lists.{each-range}
+use Rattle.lxt_chains.proofs.ChainLaws.{same-fault}
+use Rattle.lxt_chains.proofs.RootLaws.{first-plain}
+use Rattle.lxt_chains.proofs.FittingLaws.{no-first, fits-pass, unfit, clean-is}
+use Rattle.lxt_chains.specs.declared.chains.Chains.{Chains}
+use Rattle.lxt_changes.specs.declared.keep.Kept.{Kept}
 
 module _ (s : List ℕ) (t : Tables) (e : t ≡ tablesOf s) where
   -- what the chains are read with
@@ -46,25 +59,122 @@ module _ (s : List ℕ) (t : Tables) (e : t ≡ tablesOf s) where
         tables = e;
       }
 
-  pub tables-accepted : (v : Verdict) → Tells (fileRefusal s) (allClean s) v → Judged s (record { refusal = v .fault; clean = v .clean; tables = t })
-  tables-accepted v a = record { refusal = a .number; clean = a .clean; tables = e }
+  pub tables-accepted : t .refusal ≡ 0 → (v : Verdict) → Tells (chainsVerdict s) (allClean s) v → Judged s (record { refusal = v .fault; clean = v .clean; tables = t })
+  unfolding fileRefusal chainsVerdict
+  tables-accepted h v a =
+      let z : tablesRefusal s ≡ 0 = sym (refusal-is s t e) ∙ h in
+      record { refusal = a .number ∙ rw z; clean = a .clean; tables = e }
 
-  module _ (h : t .refusal ≡ 0) where
-    tables-pass : fileRefusal s ≡ (chainsRefusal s orElse 17 unless changesApart s)
-    unfolding fileRefusal
-    tables-pass = let z : tablesRefusal s ≡ 0 = sym (refusal-is s t e) ∙ h in rw z
+-- ---- refusals 15 to 17
 
-    module _ (v : Verdict) (a : Tells (chainsRefusal s) (allClean s) v) where
-      pub chain-refused : (v .fault ≡ 0 → ⊥) → Tells (fileRefusal s) (allClean s) v
-      chain-refused n = record { number = a .number ∙ sym (tables-pass ∙ stops (chainsRefusal s) _ (λ z. n (a .number ∙ z))); clean = a .clean }
+module _ (s : List ℕ) (r : Kept) (w : Swept-all s (rootOffsets s) r) where
+  pub swept-breaks : r .kept ≡ false → Broken s
+  swept-breaks h = unfit s (sym (w .kept) ∙ h)
 
-      module _ (hv : v .fault ≡ 0) where
-        pub chains-pass : chainsRefusal s ≡ 0
-        chains-pass = sym (a .number) ∙ hv
+  pub swept-passes : r .kept ≡ true → Tells (chainsVerdict s) (allClean s) (record { fault = 0; clean = r .clean })
+  swept-passes h = record { number = sym (fits-pass s (sym (w .kept) ∙ h)); clean = λ _. w .clean h ∙ clean-is s }
 
-        module _ (z : Bool) (ez : z ≡ changesApart s) where
-          pub overlap : z ≡ false → Tells (fileRefusal s) (allClean s) (record { fault = 17; clean = false })
-          overlap q = record { number = sym (tables-pass ∙ rw (chains-pass, ← ez, q)); clean = λ n. absurd (omega arith) }
+-- the first fault of a range is that of the first number that has one
+first-at : (fault : ℕ → ℕ) (i k f : ℕ) → i ≤ f → f < i + k → ((g : ℕ) → i ≤ g → g < f → fault g ≡ 0) → (fault f ≡ 0 → ⊥) → firstFault (map fault (range i k)) ≡ fault f
+unfolding range
+first-at fault i zero f a b none some = absurd (omega arith)
+first-at fault i (suc k) f a b none some =
+    elim (ℕ-discrete i f) [
+      | yes e ↦ rw e (fault-here (fault f) (map fault (range (suc f) k)) some)
+      | no n ↦ fault-next (fault i) (map fault (range (suc i) k)) (none i (omega arith) (omega arith)) ∙ first-at fault (suc i) k f (omega arith) (omega arith) (λ g x y. none g (omega arith) y) some
+    ]
 
-          pub all-pass : z ≡ true → Tells (fileRefusal s) (allClean s) v
-          all-pass q = record { number = hv ∙ sym (tables-pass ∙ rw (chains-pass, ← ez, q)); clean = a .clean }
+-- no facility has a fault
+all-faultless : (s : List ℕ) (n : ℕ) → n ≡ facilityCount s → ((f : ℕ) → f < n → facilityFault s f ≡ 0) → chainsRefusal s ≡ 0
+unfolding chainsRefusal rootsOf
+all-faultless s n e h =
+    sym (same-fault s 0 (facilityCount s)) ∙ no-first (facilityFault s) (range 0 (facilityCount s)) (each-range 0 (facilityCount s) (λ f a b. h f (omega arith)))
+
+module _ (s : List ℕ) (c : Chains) (ready : Ready s c) (broken : Broken s) where
+  module _ (r : Bool) (d : Decides (RootFault s (c .facilities)) r) where
+    -- no root has a fault: two changes share a byte
+    pub refused-17 : r ≡ false → Tells (chainsVerdict s) (allClean s) (record { fault = 17; clean = false })
+    unfolding chainsVerdict
+    refused-17 h =
+        let none : chainsRefusal s ≡ 0 =
+        all-faultless s (c .facilities) (ready .geometry .count)
+        (λ f b. on-zero (facilityFault s f) (λ z. z) (λ p. absurd (d .no h (record { number = f; first = b; fault = λ z. omega arith })))) in
+        let shared : changesApart s ≡ false = on-test (changesApart s) (λ e. absurd (broken (unfold chainsVerdict in rw (none, e)))) (λ e. e) in
+        record { number = rw (none, shared); clean = λ z. absurd (omega arith) }
+
+    pub refused-some : r ≡ true → RootFault s (c .facilities)
+    refused-some h = d .yes h
+
+  -- the first fault is that of the lowest root that has one
+  pub refused-first : (f : ℕ) → Lowest s (c .facilities) f → (v : Verdict) → Tells (facilityFault s f) (facilityClean s f) v → Tells (chainsVerdict s) (allClean s) v
+  unfolding chainsVerdict chainsRefusal rootsOf
+  refused-first f w v t =
+      let n = ready .geometry .count in
+      let i = w .inside in
+      let first : firstFault (map (facilityFault s) (range 0 (facilityCount s))) ≡ facilityFault s f =
+      first-at (facilityFault s) 0 (facilityCount s) f (omega arith) (omega arith) (λ g a b. w .none g b) (w .fault) in
+      let number : chainsRefusal s ≡ facilityFault s f = sym (same-fault s 0 (facilityCount s)) ∙ first in
+      record {
+        number = t .number ∙ sym (stops (chainsRefusal s) _ (λ z. w .fault (sym number ∙ z)) ∙ number);
+        clean = λ z. absurd (w .fault (sym (t .number) ∙ z));
+      }
+
+-- ---- the lowest root with a fault
+
+module _ (s : List ℕ) (k : ℕ) (os : List ℕ) (w : FirstOffsets s k os) where
+  pub first-roots : (c : Chains) → k ≤ c .facilities → Roots s c os
+  first-roots c h = let l = w .long in record { few = omega arith; roots = first-plain s k os w }
+
+  pub first-decides : (r : Bool) → Decides (ChainFault s os) r → Decides (RootFault s k) r
+  first-decides r d = record { yes = λ h. forth (d .yes h); no = λ h f. d .no h (back f) }
+    where
+      fault-of : (f : ℕ) → f < k → facilityFault s f ≡ (if isAlias s f then 0 else faultFrom s f (getD os f 0))
+      fault-of f b = (unfold facilityFault in on-test (isAlias s f) (λ e. rw e) (λ e. rw (e, w .are f b) (unfold rootOffset in rw e)))
+
+      forth : ChainFault s os → RootFault s k
+      forth x =
+          let f : ℕ = x .number in
+          let l = w .long in
+          elim (decLe k f) [
+            | yes q ↦ absurd (x .fault (rw (List·getD-eq-default os 0 {n = f} (omega arith)) (none f)))
+            | no q ↦ record { number = f; first = omega arith; fault = λ z. x .fault (on-zero (getD os f 0) (λ e. rw e (none f)) (λ p. (let a = first-plain s k os w f p in (rw (fault-of f (omega arith), a) at z)))) }
+          ]
+        where
+          none : (f : ℕ) → faultFrom s f 0 ≡ 0
+          none f = (unfold faultFrom in faults-none s (signalOf s f))
+
+      back : RootFault s k → ChainFault s os
+      back x = record { number = x .number; fault = λ z. x .fault (fault-of (x .number) (x .first) ∙ on-test (isAlias s (x .number)) (λ e. rw e) (λ e. rw e z)) }
+
+pub lowest-begun : (s : List ℕ) (n : ℕ) → RootFault s n → Between s n 0 n
+lowest-begun s n f = record { order = (let a = f .first in omega arith); inside = omega arith; none = λ g h. absurd (omega arith); some = f }
+
+module _ (s : List ℕ) (n low high : ℕ) (w : Between s n low high) where
+  pub lowest-ended : high ≤ low + 1 → Lowest s n low
+  lowest-ended h =
+      let f = w .some in
+      let b = f .first in
+      let i = w .inside in
+      let e : f .number ≡ low = elim (decLe low (f .number)) [
+        | yes q ↦ omega arith
+        | no q ↦ absurd (f .fault (w .none (f .number) (omega arith)))
+      ] in
+      record { inside = omega arith; fault = λ z. f .fault (rw e z); none = w .none }
+
+  module _ (far : low + 1 < high) (r : Bool) (d : Decides (RootFault s (low + (high - low) / 2)) r) where
+    abbrev middle : ℕ
+    middle = low + (high - low) / 2
+
+    pub halved-low : r ≡ true → Between s n low middle × ((low ≤ low) × ((middle ≤ high) × (middle + low < high + low)))
+    halved-low h = let i = w .inside in (record { order = omega arith; inside = omega arith; none = w .none; some = d .yes h }, (omega arith, (omega arith, omega arith)))
+
+    pub halved-high : r ≡ false → Between s n middle high × ((low ≤ middle) × ((high ≤ high) × (high + low < high + middle)))
+    halved-high h = (
+      record {
+        order = omega arith;
+        inside = w .inside;
+        none = λ g b. on-zero (facilityFault s g) (λ z. z) (λ p. absurd (d .no h (record { number = g; first = b; fault = λ z. omega arith })));
+        some = w .some;
+      },
+      (omega arith, (omega arith, omega arith)),
+    )

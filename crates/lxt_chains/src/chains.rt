@@ -1,9 +1,9 @@
-// The chains of all roots: refusals 15 and 16, and whether their padding is 0.
+// One root's chain: refusals 15 and 16, and whether its padding is 0.
 ghost use mathlib.Core.Path.{_≡_};
 ghost use mathlib.Core.Bool.{true, false};
-ghost use Prim.Native.Nat.{_≤_, _<_};
+ghost use Prim.Native.Nat.{_<_};
 ghost use Rattle.lxt_format.specs.Geometry.{isAlias};
-ghost use Rattle.lxt_format.specs.Judge.{faultFrom, cleanFrom, chainsRefusal, allClean};
+ghost use Rattle.lxt_format.specs.Judge.{faultFrom, cleanFrom};
 ghost use Rattle.lxt_chains.specs.Reading.{Ready, facilityFault, facilityClean};
 ghost use Rattle.lxt_changes.specs.Faults.{Tells};
 use lxt_changes::fault;
@@ -22,7 +22,7 @@ pub struct Chains {
 }
 
 // The verdict on the chain that starts at `o`, read with the kind and width of the root `f`.
-pub fn fault_from(file: &[u8], c: Chains, f: u32, o: u32) -> Verdict
+fn fault_from(file: &[u8], c: Chains, f: u32, o: u32) -> Verdict
     requires { ⌜ Ready (now file) c × ((f < c .facilities) × (isAlias (now file) f ≡ false)) ⌝ }
     ensures { λ r. ⌜ Tells (faultFrom (now (file .entry)) f o) (cleanFrom (now (file .entry)) f o) r ⌝ }
 {
@@ -32,7 +32,7 @@ pub fn fault_from(file: &[u8], c: Chains, f: u32, o: u32) -> Verdict
 }
 
 // The verdict on a facility's own chain; an alias has none.
-fn facility_fault(file: &[u8], c: Chains, f: u32) -> Verdict
+pub fn facility_fault(file: &[u8], c: Chains, f: u32) -> Verdict
     requires { ⌜ Ready (now file) c × (f < c .facilities) ⌝ }
     ensures { λ r. ⌜ Tells (facilityFault (now (file .entry)) f) (facilityClean (now (file .entry)) f) r ⌝ }
 {
@@ -44,25 +44,4 @@ fn facility_fault(file: &[u8], c: Chains, f: u32) -> Verdict
     }
     let start = geometry::sync_of(file, c.sync, c.facilities, f);
     fault_from(file, c, f, start)
-}
-
-// Refusals 15 and 16 of the roots in order, or 0 and whether the padding of all changes is 0.
-pub fn first_fault(file: &[u8], c: Chains) -> Verdict
-    requires { ⌜ Ready (now file) c ⌝ }
-    ensures { λ r. ⌜ Tells (chainsRefusal (now (file .entry))) (allClean (now (file .entry))) r ⌝ }
-{
-    let mut f = 0;
-    let mut clean = true;
-    while f < c.facilities {
-        let found = facility_fault(file, c, f);
-        if found.fault != 0 {
-            return found;
-        }
-        clean = clean & found.clean;
-        f += 1;
-    }
-    Verdict {
-        fault: 0,
-        clean: clean,
-    }
 }

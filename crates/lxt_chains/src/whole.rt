@@ -1,12 +1,13 @@
 // A whole file: refusals 1 to 17, or its tables and whether its padding is 0.
 ghost use mathlib.Core.Path.{_≡_};
-ghost use Rattle.lxt_format.specs.Judge.{fileRefusal, allClean};
+ghost use Rattle.lxt_format.specs.Judge.{allClean};
 ghost use Rattle.lxt_tables.specs.Stage.{tablesOf};
 ghost use Rattle.lxt_changes.specs.Faults.{Tells};
-ghost use Rattle.lxt_chains.specs.Reading.{Ready, Judged};
-use crate::apart;
+ghost use Rattle.lxt_chains.specs.Reading.{Ready, Judged, Broken, chainsVerdict};
 use crate::chains;
 use crate::chains::Chains;
+use crate::lowest;
+use crate::sweep;
 use lxt_changes::fault;
 use lxt_changes::fault::Verdict;
 use lxt_tables::Tables;
@@ -27,23 +28,36 @@ pub fn chains_of(file: &[u8], t: Tables) -> Chains
     }
 }
 
-// Refusals 15 to 17, or 0 and whether the padding of all changes is 0, once the tables have passed.
-fn chains_refusal(file: &[u8], t: Tables) -> Verdict
-    requires { ⌜ (t ≡ tablesOf (now file)) × (t .refusal ≡ 0) ⌝ }
-    ensures { λ r. ⌜ Tells (fileRefusal (now (file .entry))) (allClean (now (file .entry))) r ⌝ }
+// Refusals 15 to 17 of a file in which a change has a fault or two share a byte: the fault of the lowest
+// root that has one, and 17 where none has.
+fn refused(file: &[u8], c: Chains) -> Verdict
+    requires { ⌜ Ready (now file) c × Broken (now file) ⌝ }
+    ensures { λ r. ⌜ Tells (chainsVerdict (now (file .entry))) (allClean (now (file .entry))) r ⌝ }
 {
-    let c = chains_of(file, t);
-    let found = chains::first_fault(file, c);
-    if found.fault != 0 {
-        return found;
-    }
-    if !apart::all_apart(file, c) {
+    if !lowest::any_of_first(file, c, c.facilities) {
         return Verdict {
             fault: 17,
             clean: false,
         };
     }
-    found
+    let f = lowest::lowest(file, c);
+    chains::facility_fault(file, c, f)
+}
+
+// Refusals 15 to 17, or 0 and whether the padding of all changes is 0, once the tables have passed.
+fn chains_refusal(file: &[u8], t: Tables) -> Verdict
+    requires { ⌜ (t ≡ tablesOf (now file)) × (t .refusal ≡ 0) ⌝ }
+    ensures { λ r. ⌜ Tells (chainsVerdict (now (file .entry))) (allClean (now (file .entry))) r ⌝ }
+{
+    let c = chains_of(file, t);
+    let swept = sweep::all_keep(file, c);
+    if !swept.kept {
+        return refused(file, c);
+    }
+    Verdict {
+        fault: 0,
+        clean: swept.clean,
+    }
 }
 
 // A judged file: its refusal, or 0 and whether its padding is 0; and its tables.

@@ -1,7 +1,6 @@
--- A law for each way out of the functions on the ends of changes.
-use Prim.Native.Nat.{ℕ, zero, suc, _+_, _-_, _≤_, _%_}
+-- Where a text ends, against a bound below T.
+use Prim.Native.Nat.{ℕ, zero, suc, _+_, _-_, _≤_}
 use mathlib.Core.Path.{_≡_, sym, _∙_}
-use mathlib.Core.Bool.{Bool}
 use mathlib.Core.List.{List}
 use lib.ListN.{length}
 use lib.Seq.{slice, slice-cons, slice-empty}
@@ -12,11 +11,6 @@ use native.Mathlib.Decide.{decLe}
 use borrow.Author.Tests.{le-leb, lt-leb, lt-ltb, le-ltb}
 use Rattle.lxt_format.specs.BasicsLaws.{on-test}
 use Rattle.lxt_format.specs.Bytes.{byteAt, toZero}
-use Rattle.lxt_format.specs.Changes.{signal, commandOf, dataAt, symbolSize, packedSize, dataSize, changeEnd}
-use Rattle.lxt_format.specs.declared.Kind.{Kind}
-use Rattle.lxt_format.specs.declared.Kind.the-variants.{Bits, Integer, Real, Text}
-
--- ---- a zero before a bound
 
 module _ (s : List ℕ) (end : ℕ) (fits : end ≤ length s) where
   -- of k bytes from `from` on, up to a bound: a zero among them is the first one up to the end of the text
@@ -42,23 +36,3 @@ module _ (s : List ℕ) (end : ℕ) (fits : end ≤ length s) where
         | yes l ↦ le-ltb z bound (omega arith) ∙ sym (lt-leb (from + (toZero (slice from end s) + 1)) bound (omega arith))
         | no n ↦ (let k : from + (bound - from) ≡ bound = omega arith in rw e (rw k at (zero-among (bound - from) from (omega arith))))
       ]
-
--- ---- each kind
-
-module _ (s : List ℕ) (T : ℕ) (kind : Kind) (width o bound at : ℕ) (ea : at ≡ dataAt s o) where
-  module _ (b size : ℕ) (eb : b ≡ symbolSize (byteAt s o % 16)) (es : size ≡ packedSize b width) where
-    pub bits-end : kind ≡ Bits → leb (at + size) bound ≡ leb (changeEnd s (signal 0 T kind width) o) bound
-    unfolding changeEnd dataSize commandOf
-    bits-end e = rw (e, es, eb, ea)
-
-    pub integer-end : kind ≡ Integer → leb (at + size) bound ≡ leb (changeEnd s (signal 0 T kind width) o) bound
-    unfolding changeEnd dataSize commandOf
-    integer-end e = rw (e, es, eb, ea)
-
-  pub real-end : kind ≡ Real → leb (at + 8) bound ≡ leb (changeEnd s (signal 0 T kind width) o) bound
-  unfolding changeEnd dataSize
-  real-end e = rw (e, ea)
-
-  pub text-end : kind ≡ Text → (z : Bool) → z ≡ leb (at + (toZero (slice at T s) + 1)) bound → z ≡ leb (changeEnd s (signal 0 T kind width) o) bound
-  unfolding changeEnd dataSize
-  text-end e z ez = ez ∙ rw (e, ea)

@@ -5,3 +5,4 @@ pub mod PaddingLaws
 pub mod FaultLaws
 pub mod EndLaws
 pub mod Narrower
+pub mod KeepLaws

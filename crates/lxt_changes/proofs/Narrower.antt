@@ -88,7 +88,7 @@ fewer s b width more o cases fits h =
 -- ---- a narrower facility
 
 -- a change that keeps all rules has no fault
-no-fault : (s : List ℕ) (g : Signal) (o : ℕ) → Sound s g o → faultAt s g o ≡ 0
+pub no-fault : (s : List ℕ) (g : Signal) (o : ℕ) → Sound s g o → faultAt s g o ≡ 0
 unfolding faultAt
 no-fault s g o d =
     simp (le-leb (g .from) o (d .starts), lt-ltb o (g .end) (d .before), lt-ltb (byteAt s o) 0x40 (d .top), d .command, le-leb _ _ (d .ends), d .data′, d .previous)

@@ -1,3 +1,4 @@
 pub mod Windows
 pub mod Faults
 pub mod Padding
+pub mod Keeping

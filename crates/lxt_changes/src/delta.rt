@@ -1,10 +1,9 @@
 // The delta of a change, and the change before it.
 ghost use mathlib.Core.Path.{_≡_};
-ghost use mathlib.Core.Bool.{_&&_};
 ghost use Prim.Native.Nat.{_+_, _*_, _≤_, _<_};
 ghost use lib.ListN.{length};
 ghost use Rattle.lxt_format.specs.Bytes.{numberAt};
-ghost use Rattle.lxt_format.specs.Changes.{deltaSize, deltaOf, dataAt, previousOf, previousAllowed};
+ghost use Rattle.lxt_format.specs.Changes.{deltaSize, dataAt, previousOf, previousAllowed};
 use lxt_sections::be16;
 use lxt_sections::be32;
 use lxt_sections::wide;

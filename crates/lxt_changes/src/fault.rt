@@ -1,8 +1,6 @@
 // The faults of a change and of a chain, refusals 15 and 16, and whether their padding is 0.
 ghost use mathlib.Core.Path.{_≡_};
-ghost use mathlib.Core.Bool.{_&&_};
-ghost use Prim.Native.Nat.{_+_, _*_, _-_, _≤_, _<_};
-ghost use lib.Dec.{ltb, leb};
+ghost use Prim.Native.Nat.{_+_, _-_, _≤_, _<_};
 ghost use lib.ListN.{length};
 ghost use Rattle.lxt_changes.specs.Windows.{Known};
 ghost use Rattle.lxt_format.specs.Limits.{widestFacility};

@@ -2,8 +2,8 @@
 // its codes are allowed.
 ghost use mathlib.Core.Path.{_≡_};
 ghost use mathlib.Core.Bool.{_&&_};
-ghost use Prim.Native.Nat.{_+_, _*_, _-_, _≤_, _<_, _/_, _%_, _^_};
-ghost use lib.Dec.{ltb, leb};
+ghost use Prim.Native.Nat.{_+_, _*_, _-_, _≤_, _<_, _/_, _%_};
+ghost use lib.Dec.{ltb};
 ghost use lib.ListN.{length};
 ghost use Rattle.lxt_format.specs.Limits.{widestFacility};
 ghost use Rattle.lxt_format.specs.Changes.{commandAllowed, symbolSize, packedSize, codesAllowed};
@@ -49,7 +49,7 @@ pub fn packed_size(b: u32, width: u32) -> usize
 }
 
 // Both codes of a byte are codes of symbols.
-fn good(byte: u8) -> bool
+pub fn good(byte: u8) -> bool
     ensures { λ r. ⌜ r ≡ goodByte byte ⌝ }
 {
     (byte / 16 % 16 <= 8) & (byte % 16 <= 8)

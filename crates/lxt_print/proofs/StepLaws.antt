@@ -36,7 +36,7 @@ use Rattle.lxt_chains.proofs.Accepted.{all-allowed, allowed-fits, apart-stacked
 use Rattle.lxt_chains.specs.Reading.{Ready, Readable}
 use Rattle.lxt_chains.specs.Tree.{Tree, Blank, Holding}
 use Rattle.lxt_format.specs.declared.Pair.{Pair}
-use Rattle.lxt_chains.proofs.ApartLaws.{pending-roots, root-changes}
+use Rattle.lxt_chains.proofs.RootLaws.{pending-roots, root-changes}
 use Rattle.lxt_values.specs.Times as Ti
 use Rattle.lxt_values.specs.Entries.{EntryAt, Latest}
 use Rattle.lxt_values.specs.declared.entries.Entry.{Entry}

@@ -8,8 +8,8 @@ ghost use Rattle.lxt_chains.specs.Tree.{Blank};
 ghost use Rattle.lxt_print.specs.Placing.{Opened};
 ghost use Rattle.lxt_print.specs.Stepping.{Waiting, left, allLeft, Last, Timed, nextLine};
 use crate::lines;
-use lxt_chains::apart;
 use lxt_chains::next::take_highest;
+use lxt_chains::roots;
 use lxt_chains::tree;
 use lxt_chains::whole;
 use lxt_tables::Tables;
@@ -22,7 +22,7 @@ pub fn start(file: &[u8], t: Tables, nodes: &mut [u32], m: usize)
     ensures { λ _. ⌜ Waiting (now (file .entry)) t m (now (nodes .exit)) × (left (now (file .entry)) m (now (nodes .exit)) ≡ allLeft (now (file .entry))) ⌝ }
 {
     let c = whole::chains_of(file, t);
-    apart::put_root_offsets(file, c, nodes, m);
+    roots::put_root_offsets(file, c, nodes, m);
     tree::build(nodes, m);
 }
 

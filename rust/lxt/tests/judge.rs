@@ -152,7 +152,6 @@ fn hostile_chains_are_judged_alike() {
 
 /// Those of the longest file, with thousands of roots: judged and carried on with as they are made to be.
 #[test]
-#[ignore = "takes minutes"]
 fn the_longest_hostile_chains() {
     for hostile in lxt_generate::hostile_chains(16_777_216) {
         let name = &hostile.case.origin;

@@ -1,7 +1,9 @@
-use Rattle.lxt_chains.proofs.WholeWays.{tables-refused, tables-accepted}
 use borrow.Author.Needs.{needs}
+use Rattle.lxt_chains.proofs.WholeWays.{tables-refused, tables-accepted}
 use Rattle.lxt_chains.proofs.whole.judged.Statement.{statement}
 use Rattle.lxt_chains.proofs.whole.judged.Tie as tie
+use Rattle.lxt_chains.proofs.whole.chains_refusal.Reads as chains-refusal-reads
+use Rattle.lxt_tables.proofs.whole.tables.Reads as tables-reads
 
 tables-requires : tie.Need-tables-requires
 tables-requires c κs = search needs
