@@ -10,8 +10,7 @@ use borrow.Author.Tests.{eq-eqb, ne-eqb, leb-true, ltb-true}
 use Rattle.lxt_format.specs.Basics.{all, firstFault}
 use Rattle.lxt_format.specs.BasicsLaws.{and-both, kept, neither, fault-next, fault-here}
 use Rattle.lxt_format.specs.Bytes.{byteAt}
-use Rattle.lxt_format.specs.Changes.{Signal, signal, commandOf, deltaSize, dataAt, previousOf, commandAllowed, dataSize, dataAllowed, cleanAt, changeEnd, previousAllowed, faultAt, chainWithin, chainOf, chainFault, chainClean}
-use Rattle.lxt_format.specs.declared.Kind.{Kind}
+use Rattle.lxt_format.specs.Changes.{Signal, commandOf, deltaSize, dataAt, previousOf, commandAllowed, dataAllowed, cleanAt, changeEnd, previousAllowed, faultAt, chainWithin, chainOf, chainFault, chainClean}
 
 -- ---- the previous change
 
@@ -111,11 +110,6 @@ module _ (s : List ℕ) (g : Signal) where
 pub data-after : (s : List ℕ) (o : ℕ) → o + 2 ≤ dataAt s o
 unfolding dataAt deltaSize
 data-after s o = omega arith
-
--- where a change ends does not depend on C
-pub end-any : (C D T : ℕ) (kind : Kind) (width : ℕ) (s : List ℕ) (o : ℕ) → changeEnd s (signal C T kind width) o ≡ changeEnd s (signal D T kind width) o
-unfolding changeEnd dataSize
-end-any C D T kind width s o = refl
 
 pub end-after : (s : List ℕ) (g : Signal) (o : ℕ) → o + 2 ≤ changeEnd s g o
 unfolding changeEnd
