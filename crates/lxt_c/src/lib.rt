@@ -2,6 +2,7 @@
 // memory; where it is refused, nothing lent changes. include/lxt.h documents them for C.
 ghost use mathlib.Core.Path.{_≡_};
 ghost use Rattle.lxt_format.specs.Judge.{judge};
+ghost use Rattle.lxt_format.specs.Stray.{strayAsked};
 ghost use lib.ListN.{length};
 ghost use Rattle.lxt_format.specs.Answers.{numberSays, valueSays};
 ghost use Rattle.lxt_format.specs.Questions.{factsAsked, rootAsked, nameAsked, nameBuffer, beforeAsked, changeAsked, changeBuffer, valueAsked, valueBuffer};
@@ -101,6 +102,16 @@ fn give(a: NumberAnswer, number: &mut u32) -> u32
         }
         NumberAnswer::Refused(n) => n as u32,
     }
+}
+
+// How many bytes of the file lie in no change and in no section.
+#[no_mangle]
+pub extern "C" fn lxt_stray(file: &[u8], stray: &mut u32) -> u32
+    ensures { λ r. ⌜ r ≡ numberOf (strayAsked (now (file .entry))) ⌝ }
+    ensures { λ _. ⌜ now (stray .exit) ≡ oneNumber (strayAsked (now (file .entry))) (now (stray .entry)) ⌝ }
+{
+    let a = lxt_reader::stray(file);
+    give(a, stray)
 }
 
 // The root of a facility.

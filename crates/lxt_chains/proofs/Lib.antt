@@ -4,6 +4,10 @@ pub mod Step
 pub mod Bridge
 pub mod Check17
 pub mod Accepted
+pub mod CountLaws
+pub mod StrayLaws
+pub mod FreeLaws
+pub mod SortingLaws
 pub mod ChainLaws
 pub mod TreeLaws
 pub mod WindowLaws

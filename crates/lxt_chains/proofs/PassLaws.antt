@@ -105,9 +105,11 @@ module _ (s : List ℕ) (c : Chains) (w : Ready s c) (asked : Bool) (o : ℕ) wh
   symbols-told : (kind : Kind) (width : ℕ) → (kind ≡ Bits) ⊎ (kind ≡ Integer) → asked ≡ true → headKept s (c .from) (c .end) kind o ≡ true
       → (r : Bool) → r ≡ symbolsKept s (c .end) width o → r ≡ keptAs s asked kind width o
   symbols-told kind width k h head r e =
+      let b : ℕ = symbolSize (commandOf s o) in
       told kind width r h
-      (symbols-keep s (c .from) (c .end) kind width o true (sym head) refl k (record { kept = r; clean = paddingClean s (symbolSize (commandOf s o)) width (dataAt s o) })
-      (record { kept = e; clean = λ _. refl }) .kept)
+      (symbols-keep s (c .from) (c .end) kind width o true (sym head) refl k
+      (record { kept = r; clean = paddingClean s b width (dataAt s o); end = dataAt s o + packedSize b width })
+      (record { kept = e; clean = λ _. refl; end = λ _. refl }) .kept)
 
   pub integer-told : asked ≡ true → (z : Bool) → z ≡ headKept s (c .from) (c .end) Integer o → z ≡ true
       → (r : Bool) → r ≡ leb (dataAt s o + packedSize (symbolSize (commandOf s o)) 32) (c .end) → r ≡ keptAs s asked Integer 32 o

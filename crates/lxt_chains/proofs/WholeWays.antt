@@ -8,25 +8,33 @@ use native.Mathlib.Omega.{arith}
 use native.Mathlib.Decide.{decLe, ℕ-discrete}
 use Rattle.lxt_format.specs.Basics.{if_then_else_, range, firstFault}
 use Rattle.lxt_format.specs.BasicsLaws.{on-test, on-zero, stops, fault-next, fault-here}
-use Rattle.lxt_format.specs.Sections.{facilityCount}
+use Rattle.lxt_format.specs.Sections.{facilityCount, endOf}
 use Rattle.lxt_format.specs.Geometry.{isAlias, rootsOf}
 use Rattle.lxt_format.specs.ChangesLaws.{faults-none}
 use Rattle.lxt_format.specs.Judge.{tablesRefusal, signalOf, faultFrom, chainsRefusal, changesApart, fileRefusal, allClean}
-use Rattle.lxt_tables.specs.Stage.{tablesOf}
+use Rattle.lxt_format.specs.Stray.{strayAt, strayBytes}
+use Rattle.lxt_sections.specs.Stage.{sectionsOf}
+use Rattle.lxt_sections.specs.declared.Sections.{Sections}
+use Rattle.lxt_tables.specs.Stage.{namesEnd, tablesOf}
+use Rattle.lxt_tables.specs.Asked.{Placed}
+use Rattle.lxt_tables.specs.Parts.{Bodies}
 use Rattle.lxt_tables.specs.declared.Tables.{Tables}
-use Rattle.lxt_tables.proofs.TablesLaws.{known, refusal-is}
+use Rattle.lxt_tables.proofs.TablesLaws.{known, refusal-is, tables-placed, names-end-of}
 use Rattle.lxt_changes.specs.Faults.{LastZero, Tells}
 use Rattle.lxt_changes.specs.declared.fault.Verdict.{Verdict}
 use Rattle.lxt_chains.specs.Pending.{rootOffsets}
 use Rattle.lxt_chains.specs.Reading.{Ready, Judged, facilityFault, facilityClean, rootOffset, FirstOffsets, RootFault, Lowest, Between, Broken, chainsVerdict}
-use Rattle.lxt_chains.specs.Sweep.{Swept-all}
+use Rattle.lxt_chains.specs.Sweep.{Swept-all, Ends, Counts}
 use Rattle.lxt_chains.specs.Groups.{Decides, Roots, ChainFault}
 use Rattle.lxt_chains.proofs.Lists.{each-range}
+use Rattle.lxt_chains.proofs.CountLaws.{counted-most}
+use Rattle.lxt_chains.proofs.StrayLaws.{stray-is}
 use Rattle.lxt_chains.proofs.ChainLaws.{same-fault}
 use Rattle.lxt_chains.proofs.RootLaws.{first-plain}
 use Rattle.lxt_chains.proofs.FittingLaws.{no-first, fits-pass, unfit, clean-is}
 use Rattle.lxt_chains.specs.declared.chains.Chains.{Chains}
-use Rattle.lxt_changes.specs.declared.keep.Kept.{Kept}
+use Rattle.lxt_chains.specs.declared.sweep.Totals.{Totals}
+use Rattle.lxt_chains.specs.declared.whole.Outcome.{Outcome}
 
 module _ (s : List ℕ) (t : Tables) (e : t ≡ tablesOf s) where
   -- what the chains are read with
@@ -59,20 +67,57 @@ module _ (s : List ℕ) (t : Tables) (e : t ≡ tablesOf s) where
         tables = e;
       }
 
-  pub tables-accepted : t .refusal ≡ 0 → (v : Verdict) → Tells (chainsVerdict s) (allClean s) v → Judged s (record { refusal = v .fault; clean = v .clean; tables = t })
+  pub tables-accepted : t .refusal ≡ 0 → (parts : List ℕ) (r : Outcome) → Ends s parts r → Judged s (record { refusal = r .refusal; clean = r .clean; tables = t })
   unfolding fileRefusal chainsVerdict
-  tables-accepted h v a =
+  tables-accepted h parts r a =
       let z : tablesRefusal s ≡ 0 = sym (refusal-is s t e) ∙ h in
-      record { refusal = a .number ∙ rw z; clean = a .clean; tables = e }
+      record { refusal = a .refusal ∙ rw z; clean = a .clean; tables = e }
+
+-- ---- stray bytes
+
+module _ (s : List ℕ) (t : Tables) (e : t ≡ tablesOf s) where
+  pub count-refused : (t .refusal ≡ 0 → ⊥) → Counts s (record { refusal = t .refusal; stray = 0 })
+  count-refused n = record { refusal = tables-refused s t e n .refusal; stray = λ z. absurd (n z) }
+
+  pub count-asks : (p : Sections) → p ≡ sectionsOf s → t .refusal ≡ 0 → Placed s p × (t .«names_end» ≡ namesEnd s)
+  count-asks p ep h = let z = sym (refusal-is s t e) ∙ h in (tables-placed s p ep z, names-end-of s t e z)
+
+  module _ (h : t .refusal ≡ 0) (parts : List ℕ) (r : Outcome) (a : Ends s parts r) where
+    pub count-broken : (r .refusal ≡ 0 → ⊥) → Counts s (record { refusal = r .refusal; stray = 0 })
+    count-broken n = record { refusal = tables-accepted s t e h parts r a .refusal; stray = λ z. absurd (n z) }
+
+    module _ (bodies : Bodies s parts) (z : r .refusal ≡ 0) where
+      counted-is : r .free ≡ strayBytes s
+      counted-is = a .free z ∙ stray-is s parts bodies (a .fits z) (sym (refusal-is s t e) ∙ h)
+
+      pub count-fits : r .free < 4294967296
+      unfolding strayBytes
+      count-fits =
+          let k = known s t e h in
+          omega (arith, counted-is, counted-most (strayAt s) 4 (endOf s), k .end, k .end-high, k .long)
+
+      pub count-told : Counts s (record { refusal = 0; stray = r .free })
+      count-told = record { refusal = sym z ∙ tables-accepted s t e h parts r a .refusal; stray = λ _. counted-is }
 
 -- ---- refusals 15 to 17
 
-module _ (s : List ℕ) (r : Kept) (w : Swept-all s (rootOffsets s) r) where
-  pub swept-breaks : r .kept ≡ false → Broken s
-  swept-breaks h = unfit s (sym (w .kept) ∙ h)
+module _ (s parts : List ℕ) (r : Totals) (w : Swept-all s parts (rootOffsets s) r) where
+  pub swept-passes : r .kept ≡ true → Ends s parts (record { refusal = 0; clean = r .clean; free = r .free })
+  swept-passes h = record {
+    refusal = sym (fits-pass s (sym (w .kept) ∙ h));
+    clean = λ _. w .clean h ∙ clean-is s;
+    fits = λ _. sym (w .kept) ∙ h;
+    free = λ _. w .free h;
+  }
 
-  pub swept-passes : r .kept ≡ true → Tells (chainsVerdict s) (allClean s) (record { fault = 0; clean = r .clean })
-  swept-passes h = record { number = sym (fits-pass s (sym (w .kept) ∙ h)); clean = λ _. w .clean h ∙ clean-is s }
+  module _ (h : r .kept ≡ false) where
+    pub swept-breaks : Broken s
+    swept-breaks = unfit s (sym (w .kept) ∙ h)
+
+    pub swept-refused : (v : Verdict) → Tells (chainsVerdict s) (allClean s) v → Ends s parts (record { refusal = v .fault; clean = v .clean; free = 0 })
+    swept-refused v t =
+        let none : v .fault ≡ 0 → ⊥ = (λ z. swept-breaks (sym (t .number) ∙ z)) in
+        record { refusal = t .number; clean = t .clean; fits = λ z. absurd (none z); free = λ z. absurd (none z) }
 
 -- the first fault of a range is that of the first number that has one
 first-at : (fault : ℕ → ℕ) (i k f : ℕ) → i ≤ f → f < i + k → ((g : ℕ) → i ≤ g → g < f → fault g ≡ 0) → (fault f ≡ 0 → ⊥) → firstFault (map fault (range i k)) ≡ fault f

@@ -9,15 +9,21 @@ use Rattle.lxt_format.specs.Basics.{all}
 use Rattle.lxt_format.specs.Sections.{endOf}
 use Rattle.lxt_format.specs.Geometry.{isAlias, ownFacts}
 use Rattle.lxt_format.specs.Changes.{faultAt, cleanAt}
-use Rattle.lxt_format.specs.Judge.{signalOf, endAt}
+use Rattle.lxt_format.specs.Judge.{signalOf, endAt, allClean, fileRefusal}
+use Rattle.lxt_format.specs.Stray.{strayBytes}
 use Rattle.lxt_format.specs.Walk.{sort}
 use Rattle.lxt_format.specs.declared.Pair.{Pair}
-use Rattle.lxt_chains.specs.Pending.{pairOf, pendingChanges}
+use Rattle.lxt_chains.specs.Pending.{pairOf, pendingChanges, rootOffsets}
+use Rattle.lxt_chains.specs.Reading.{chainsVerdict}
 use Rattle.lxt_chains.specs.Groups.{bitsWidth, kindNumber}
 use Rattle.lxt_chains.specs.Windows.{window, Holds, Upto}
+use Rattle.lxt_chains.specs.Free.{freeAround}
 use Rattle.lxt_chains.specs.declared.chains.Chains.{Chains}
 use Rattle.lxt_changes.specs.declared.keep.Kept.{Kept}
 use Rattle.lxt_chains.specs.declared.sweep.Swept.{Swept}
+use Rattle.lxt_chains.specs.declared.sweep.Totals.{Totals}
+use Rattle.lxt_chains.specs.declared.whole.Outcome.{Outcome}
+use Rattle.lxt_chains.specs.declared.stray.Counted.{Counted}
 
 -- a change breaks no rule of 15 or 16 and ends at or below a bound
 unfoldable pub keeps : List ℕ → ℕ → Pair → Bool
@@ -43,6 +49,7 @@ left s os = sort (pendingChanges s 0 os)
 pub record Tested (s : List ℕ) (bound f o : ℕ) (r : Kept) : Type 0 where
   pub kept : r .kept ≡ keeps s bound (pairOf f o)
   pub clean : r .kept ≡ true → r .clean ≡ paddingOf s (pairOf f o)
+  pub end : r .kept ≡ true → r .end ≡ endAt s (pairOf f o)
 
 -- the kind and width of a root as a group of its own (Groups)
 pub record OfRoot (s : List ℕ) (f width kinds : ℕ) : Type 0 where
@@ -63,19 +70,34 @@ pub record Sweeping (s : List ℕ) (c : Chains) (base i : ℕ) (widths kinds os 
   pub holds : Holds base (c .facilities) os slots
   pub upto : Upto os (base + i - 1)
 
--- the changes from the offsets os on fit below the bound and are clean exactly where those from os₀ on are below bound₀, so far as that is not known
-pub record Same (s : List ℕ) (os₀ : List ℕ) (bound₀ : ℕ) (clean₀ : Bool) (os : List ℕ) (bound : ℕ) (clean : Bool) : Type 0 where
+-- the changes from the offsets os on fit below the bound and are clean exactly where those from os₀ on are below bound₀, so far as that is not known; and
+-- with the free bytes that were counted there are as many around them
+pub record Same (s parts os₀ : List ℕ) (bound₀ : ℕ) (clean₀ : Bool) (free₀ : ℕ) (os : List ℕ) (bound : ℕ) (clean : Bool) (free : ℕ) : Type 0 where
   pub fits : fitting s bound (left s os) ≡ fitting s bound₀ (left s os₀)
   pub cleans : (clean && cleanly s (left s os)) ≡ (clean₀ && cleanly s (left s os₀))
+  pub frees : free + freeAround s parts bound (left s os) ≡ free₀ + freeAround s parts bound₀ (left s os₀)
 
 -- what a part of the sweep leaves: all below i is still pending and all above it kept the rules, or a rule is broken
-pub record Went (s : List ℕ) (c : Chains) (base i : ℕ) (widths kinds os₀ : List ℕ) (bound₀ : ℕ) (clean₀ : Bool) (os slots : List ℕ) (r : Swept) : Type 0 where
+pub record Went (s : List ℕ) (c : Chains) (parts : List ℕ) (base i : ℕ) (widths kinds os₀ : List ℕ) (bound₀ : ℕ) (clean₀ : Bool) (free₀ : ℕ) (os slots : List ℕ) (r : Swept) : Type 0 where
   pub state : r .kept ≡ true → Sweeping s c base i widths kinds os slots
-  pub same : r .kept ≡ true → Same s os₀ bound₀ clean₀ os (r .bound) (r .clean)
-  pub bounded : r .kept ≡ true → r .bound ≤ c .end
+  pub same : r .kept ≡ true → Same s parts os₀ bound₀ clean₀ free₀ os (r .bound) (r .clean) (r .free)
+  pub bounded : r .kept ≡ true → r .free + r .bound ≤ c .end
   pub broken : r .kept ≡ false → fitting s bound₀ (left s os₀) ≡ false
 
 -- what the whole sweep found
-pub record Swept-all (s : List ℕ) (os : List ℕ) (r : Kept) : Type 0 where
+pub record Swept-all (s parts os : List ℕ) (r : Totals) : Type 0 where
   pub kept : r .kept ≡ fitting s (endOf s) (left s os)
   pub clean : r .kept ≡ true → r .clean ≡ cleanly s (left s os)
+  pub free : r .kept ≡ true → r .free ≡ freeAround s parts (endOf s) (left s os)
+
+-- refusals 15 to 17 of a file; where there is none, whether its padding was clean and how many of its bytes are free
+pub record Ends (s parts : List ℕ) (r : Outcome) : Type 0 where
+  pub refusal : r .refusal ≡ chainsVerdict s
+  pub clean : r .refusal ≡ 0 → r .clean ≡ allClean s
+  pub fits : r .refusal ≡ 0 → fitting s (endOf s) (left s (rootOffsets s)) ≡ true
+  pub free : r .refusal ≡ 0 → r .free ≡ freeAround s parts (endOf s) (left s (rootOffsets s))
+
+-- the refusal of a file; where there is none, how many of its bytes are stray
+pub record Counts (s : List ℕ) (r : Counted) : Type 0 where
+  pub refusal : r .refusal ≡ fileRefusal s
+  pub stray : r .refusal ≡ 0 → r .stray ≡ strayBytes s

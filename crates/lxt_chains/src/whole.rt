@@ -4,6 +4,8 @@ ghost use Rattle.lxt_format.specs.Judge.{allClean};
 ghost use Rattle.lxt_tables.specs.Stage.{tablesOf};
 ghost use Rattle.lxt_changes.specs.Faults.{Tells};
 ghost use Rattle.lxt_chains.specs.Reading.{Ready, Judged, Broken, chainsVerdict};
+ghost use Rattle.lxt_chains.specs.Free.{Ordered};
+ghost use Rattle.lxt_chains.specs.Sweep.{Ends};
 use crate::chains;
 use crate::chains::Chains;
 use crate::lowest;
@@ -44,19 +46,33 @@ fn refused(file: &[u8], c: Chains) -> Verdict
     chains::facility_fault(file, c, f)
 }
 
-// Refusals 15 to 17, or 0 and whether the padding of all changes is 0, once the tables have passed.
-fn chains_refusal(file: &[u8], t: Tables) -> Verdict
-    requires { ⌜ (t ≡ tablesOf (now file)) × (t .refusal ≡ 0) ⌝ }
-    ensures { λ r. ⌜ Tells (chainsVerdict (now (file .entry))) (allClean (now (file .entry))) r ⌝ }
+// Refusals 15 to 17; or 0, whether the padding of all changes is 0, and how many bytes from offset 4 on lie in
+// no change and no part.
+pub struct Outcome {
+    pub refusal: u8,
+    pub clean: bool,
+    pub free: usize,
+}
+
+// Once the tables have passed.
+pub fn chains_outcome(file: &[u8], t: Tables, parts: &[u64]) -> Outcome
+    requires { ⌜ ((t ≡ tablesOf (now file)) × (t .refusal ≡ 0)) × Ordered (now parts) ⌝ }
+    ensures { λ r. ⌜ Ends (now (file .entry)) (now (parts .entry)) r ⌝ }
 {
     let c = chains_of(file, t);
-    let swept = sweep::all_keep(file, c);
+    let swept = sweep::all_keep(file, c, parts);
     if !swept.kept {
-        return refused(file, c);
+        let found = refused(file, c);
+        return Outcome {
+            refusal: found.fault,
+            clean: found.clean,
+            free: 0,
+        };
     }
-    Verdict {
-        fault: 0,
+    Outcome {
+        refusal: 0,
         clean: swept.clean,
+        free: swept.free,
     }
 }
 
@@ -78,9 +94,11 @@ pub fn judged(file: &[u8]) -> Examined
             tables: t,
         };
     }
-    let found = chains_refusal(file, t);
+    // no parts: judging does not ask for free bytes
+    let none = [0u64; 0];
+    let found = chains_outcome(file, t, &none);
     Examined {
-        refusal: found.fault,
+        refusal: found.refusal,
         clean: found.clean,
         tables: t,
     }

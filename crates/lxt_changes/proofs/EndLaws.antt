@@ -1,6 +1,6 @@
 -- Where a text ends, against a bound below T.
-use Prim.Native.Nat.{ℕ, zero, suc, _+_, _-_, _≤_}
-use mathlib.Core.Path.{_≡_, sym, _∙_}
+use Prim.Native.Nat.{ℕ, zero, suc, _+_, _-_, _≤_, _<_}
+use mathlib.Core.Path.{_≡_, sym, ap, _∙_}
 use mathlib.Core.List.{List}
 use lib.ListN.{length}
 use lib.Seq.{slice, slice-cons, slice-empty}
@@ -36,3 +36,22 @@ module _ (s : List ℕ) (end : ℕ) (fits : end ≤ length s) where
         | yes l ↦ le-ltb z bound (omega arith) ∙ sym (lt-leb (from + (toZero (slice from end s) + 1)) bound (omega arith))
         | no n ↦ (let k : from + (bound - from) ≡ bound = omega arith in rw e (rw k at (zero-among (bound - from) from (omega arith))))
       ]
+
+  zero-kept : (k from : ℕ) → from + k ≤ end → toZero (slice from (from + k) s) < k → toZero (slice from (from + k) s) ≡ toZero (slice from end s)
+  unfolding toZero
+  zero-kept zero from h l = absurd (omega arith)
+  zero-kept (suc k) from h l =
+      let here = slice-cons from (from + suc k) s 0 (omega arith) (omega arith) in
+      let whole = slice-cons from end s 0 (omega arith) fits in
+      let bound : suc from + k ≡ from + suc k = omega arith in
+      let rest : toZero (slice (suc from) (from + suc k) s) < k → toZero (slice (suc from) (from + suc k) s) ≡ toZero (slice (suc from) end s) =
+      (rw bound at (zero-kept k (suc from) (omega arith))) in
+      on-test (eqb (byteAt s from) 0)
+      (λ e. rw (here, whole, e))
+      (λ e. rw (here, whole, e) (ap suc (rest (let m = (rw (here, e) at l) in omega arith))))
+
+  -- and the text is the same, read up to the bound
+  pub same-text : (from bound : ℕ) → bound ≤ end → from + toZero (slice from bound s) < bound → toZero (slice from bound s) ≡ toZero (slice from end s)
+  same-text from bound b h =
+      let k : from + (bound - from) ≡ bound = omega arith in
+      (rw k at (zero-kept (bound - from) from (omega arith))) (omega arith)

@@ -74,20 +74,27 @@ module _ (s : List ℕ) (from to : ℕ) where
 
 -- ---- symbols
 
+pub symbols-upto : (s : List ℕ) (width o at b size : ℕ) → at ≡ dataAt s o → b ≡ symbolSize (byteAt s o % 16) → size ≡ packedSize b width
+    → at + size ≡ dataAt s o + packedSize (symbolSize (commandOf s o)) width
+unfolding commandOf
+symbols-upto s width o at b size ea eb es = rw (ea, es, eb)
+
 module _ (s : List ℕ) (T width o : ℕ) where
-  pub fit-is : (at b size : ℕ) → at ≡ dataAt s o → b ≡ symbolSize (byteAt s o % 16) → size ≡ packedSize b width
-      → leb (at + size) T ≡ leb (dataAt s o + packedSize (symbolSize (commandOf s o)) width) T
-  unfolding commandOf
-  fit-is at b size ea eb es = rw (ea, es, eb)
+  module _ (to : ℕ) (et : to ≡ dataAt s o + packedSize (symbolSize (commandOf s o)) width) where
+    pub fit-is : leb to T ≡ leb (dataAt s o + packedSize (symbolSize (commandOf s o)) width) T
+    fit-is = rw et
 
-  module _ (z : Bool) (ez : z ≡ leb (dataAt s o + packedSize (symbolSize (commandOf s o)) width) T) where
-    pub symbols-far : z ≡ false → SymbolsKept s T width o (record { kept = false; clean = false })
+    pub symbols-far : T < to → SymbolsKept s T width o (record { kept = false; clean = false; end = 0 })
     unfolding symbolsKept
-    symbols-far h = record { kept = rw (← ez, h); clean = λ q. absurd (false≢true q) }
+    symbols-far h = record {
+      kept = rw (← et, lt-leb to T h);
+      clean = λ q. absurd (false≢true q);
+      end = λ q. absurd (false≢true q);
+    }
 
-    module _ (h : z ≡ true) (b at : ℕ) (eb : b ≡ symbolSize (byteAt s o % 16)) (ea : at ≡ dataAt s o) where
+    module _ (h : to ≤ T) (b at : ℕ) (eb : b ≡ symbolSize (byteAt s o % 16)) (ea : at ≡ dataAt s o) where
       inside : dataAt s o + packedSize (symbolSize (commandOf s o)) width ≤ T
-      inside = leb-true _ _ (sym ez ∙ h)
+      inside = rw et at h
 
       pub data-inside : T ≤ length s → at + packedSize b width ≤ length s
       unfolding commandOf
@@ -96,9 +103,10 @@ module _ (s : List ℕ) (T width o : ℕ) where
       pub data-here : 1 ≤ width → width ≤ widestFacility → T ≤ length s → Data s b width at
       data-here least most l = record { symbols = rw eb (symbol-cases (byteAt s o % 16)); least = least; most = most; inside = data-inside l }
 
-      pub symbols-told : (k p : Bool) → k ≡ codesAllowed s b width at → p ≡ paddingClean s b width at → SymbolsKept s T width o (record { kept = k; clean = p })
+      pub symbols-told : (k p : Bool) → k ≡ codesAllowed s b width at → p ≡ paddingClean s b width at
+          → SymbolsKept s T width o (record { kept = k; clean = p; end = to })
       unfolding symbolsKept commandOf
-      symbols-told k p ek ep = record { kept = ek ∙ rw (← ez, h, eb, ea); clean = λ _. ep ∙ rw (eb, ea) }
+      symbols-told k p ek ep = record { kept = ek ∙ rw (← et, le-leb to T h, eb, ea); clean = λ _. ep ∙ rw (eb, ea); end = λ _. et }
 
 -- ---- codes
 
@@ -165,7 +173,7 @@ module _ (s : List ℕ) (C T : ℕ) (kind : Kind) (width o : ℕ) where
       (λ z. z)))
 
   -- a rule of its head is broken
-  pub head-breaks : (z : Bool) → z ≡ headKept s C T kind o → z ≡ false → Keeps s C T kind width o (record { kept = false; clean = false })
+  pub head-breaks : (z : Bool) → z ≡ headKept s C T kind o → z ≡ false → Keeps s C T kind width o (record { kept = false; clean = false; end = 0 })
   unfolding headKept
   head-breaks z ez h = record {
     kept = sym
@@ -181,6 +189,7 @@ module _ (s : List ℕ) (C T : ℕ) (kind : Kind) (width o : ℕ) where
         (both-and _ _ (le-leb C o (w .starts)) (both-and _ _ (both-and _ _ (lt-ltb (byteAt s o) 0x40 (w .top)) (w .command)) (w .previous)))))))
         (λ q. q));
     clean = λ q. absurd (false≢true q);
+    end = λ q. absurd (false≢true q);
   }
 
   module _ (z : Bool) (ez : z ≡ headKept s C T kind o) (hz : z ≡ true) where
@@ -192,17 +201,24 @@ module _ (s : List ℕ) (C T : ℕ) (kind : Kind) (width o : ℕ) where
 
     pub symbols-keep : (kind ≡ Bits) ⊎ (kind ≡ Integer) → (r : Kept) → SymbolsKept s T width o r → Keeps s C T kind width o r
     unfolding symbolsKept changeEnd dataSize dataAllowed cleanAt
-    symbols-keep (inl e) r w = record { kept = keeps-by (r .kept) (w .kept ∙ rw e) head; clean = λ q. w .clean q ∙ rw e }
-    symbols-keep (inr e) r w = record { kept = keeps-by (r .kept) (w .kept ∙ rw e) head; clean = λ q. w .clean q ∙ rw e }
+    symbols-keep (inl e) r w = record { kept = keeps-by (r .kept) (w .kept ∙ rw e) head; clean = λ q. w .clean q ∙ rw e; end = λ q. w .end q ∙ rw e }
+    symbols-keep (inr e) r w = record { kept = keeps-by (r .kept) (w .kept ∙ rw e) head; clean = λ q. w .clean q ∙ rw e; end = λ q. w .end q ∙ rw e }
 
     module _ (at : ℕ) (ea : at ≡ dataAt s o) where
-      pub real-keeps : kind ≡ Real → Keeps s C T kind width o (record { kept = leb (at + 8) T; clean = true })
+      pub real-keeps : kind ≡ Real → Keeps s C T kind width o (record { kept = leb (at + 8) T; clean = true; end = at + 8 })
       unfolding changeEnd dataSize dataAllowed cleanAt
-      real-keeps e = record { kept = keeps-by (leb (at + 8) T) (rw (e, ea) (sym (and-true _))) head; clean = λ _. rw e }
+      real-keeps e = record { kept = keeps-by (leb (at + 8) T) (rw (e, ea) (sym (and-true _))) head; clean = λ _. rw e; end = λ _. rw (e, ea) }
 
-      pub text-keeps : kind ≡ Text → T ≤ length s → (p : ℕ) → p ≡ at + toZero (slice at T s) → Keeps s C T kind width o (record { kept = ltb p T; clean = true })
+      pub text-keeps : kind ≡ Text → T ≤ length s → (p : ℕ) → p ≡ at + toZero (slice at T s)
+          → Keeps s C T kind width o (record { kept = ltb p T; clean = true; end = p + 1 })
       unfolding changeEnd dataSize dataAllowed cleanAt
-      text-keeps e l p ep = record { kept = keeps-by (ltb p T) (before-bound s T l at T p (omega arith) ep ∙ rw (e, ea) (sym (and-true _))) head; clean = λ _. rw e }
+      text-keeps e l p ep =
+          let up : p + 1 ≡ at + (toZero (slice at T s) + 1) = omega arith in
+          record {
+            kept = keeps-by (ltb p T) (before-bound s T l at T p (omega arith) ep ∙ rw (e, ea) (sym (and-true _))) head;
+            clean = λ _. rw e;
+            end = λ _. up ∙ rw (e, ea);
+          }
 
 -- ---- integers
 
@@ -225,9 +241,9 @@ integer-padding s b at (inr e) =
     rw (e, u, mod-one (byteAt s (at + (1 * 32 + 7) / 8 - 1)))
 
 pub integer-keeps : (s : List ℕ) (C T : ℕ) (kind : Kind) (width o : ℕ) (z : Bool) → z ≡ headKept s C T kind o → z ≡ true → kind ≡ Integer → width ≡ 32
-    → (k : Bool) → k ≡ leb (dataAt s o + packedSize (symbolSize (commandOf s o)) 32) T → Keeps s C T kind width o (record { kept = k; clean = true })
+    → (to : ℕ) → to ≡ dataAt s o + packedSize (symbolSize (commandOf s o)) 32 → Keeps s C T kind width o (record { kept = leb to T; clean = true; end = to })
 unfolding symbolsKept headKept
-integer-keeps s C T kind width o z ez hz e ew k ek =
+integer-keeps s C T kind width o z ez hz e ew to et =
     let head = sym ez ∙ hz in
     let a = and-both (ltb o T) _ head in
     let b = and-both (leb (dataAt s o) T) _ (a .1) in
@@ -238,8 +254,9 @@ integer-keeps s C T kind width o z ez hz e ew k ek =
     let codes = integer-codes s (symbolSize (commandOf s o)) (dataAt s o) size in
     symbols-keep s C T kind width o z ez hz (inr e) _
     (record {
-      kept = ek ∙ rw (ew, codes) (sym (and-true _));
+      kept = rw (ew, codes, et) (sym (and-true _));
       clean = λ _. rw ew (sym (integer-padding s (symbolSize (commandOf s o)) (dataAt s o) size));
+      end = λ _. et ∙ rw ew;
     })
 
 -- the width of symbols

@@ -7,7 +7,7 @@ use lib.ListN.{length}
 use lib.Dec.{ltb, leb, eqb}
 use Rattle.lxt_format.specs.Limits.{widestFacility}
 use Rattle.lxt_format.specs.Bytes.{byteAt}
-use Rattle.lxt_format.specs.Changes.{signal, commandOf, dataAt, commandAllowed, symbolSize, packedSize, codesAllowed, paddingClean, previousAllowed, faultAt, cleanAt}
+use Rattle.lxt_format.specs.Changes.{signal, commandOf, dataAt, commandAllowed, symbolSize, packedSize, codesAllowed, paddingClean, previousAllowed, changeEnd, faultAt, cleanAt}
 use Rattle.lxt_format.specs.declared.Kind.{Kind}
 use Rattle.lxt_changes.specs.Faults.{symbolic}
 use Rattle.lxt_changes.specs.declared.keep.Kept.{Kept}
@@ -26,11 +26,13 @@ symbolsKept s T width o =
 pub record SymbolsKept (s : List ℕ) (T width o : ℕ) (r : Kept) : Type 0 where
   pub kept : r .kept ≡ symbolsKept s T width o
   pub clean : r .kept ≡ true → r .clean ≡ paddingClean s (symbolSize (commandOf s o)) width (dataAt s o)
+  pub end : r .kept ≡ true → r .end ≡ dataAt s o + packedSize (symbolSize (commandOf s o)) width
 
 -- and of a change of any kind
 pub record Keeps (s : List ℕ) (C T : ℕ) (kind : Kind) (width o : ℕ) (r : Kept) : Type 0 where
   pub kept : r .kept ≡ eqb (faultAt s (signal C T kind width) o) 0
   pub clean : r .kept ≡ true → r .clean ≡ cleanAt s (signal C T kind width) o
+  pub end : r .kept ≡ true → r .end ≡ changeEnd s (signal C T kind width) o
 
 -- T lies in the file, and the width is allowed
 pub record Wide (s : List ℕ) (T : ℕ) (kind : Kind) (width : ℕ) : Type 0 where

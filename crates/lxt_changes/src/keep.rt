@@ -14,10 +14,11 @@ use crate::symbols;
 use lxt_format::Kind;
 use lxt_sections::zeros::zero_from;
 
-// Whether changes keep the rules, and if so whether their padding is 0.
+// Whether a change keeps the rules, and if so whether its padding is 0 and where it ends.
 pub struct Kept {
     pub kept: bool,
     pub clean: bool,
+    pub end: usize,
 }
 
 // All rules but those of the data: where the change at `o` starts, its command byte, that its delta ends at
@@ -35,12 +36,20 @@ pub fn head_keeps(file: &[u8], from: usize, end: usize, kind: Kind, o: usize) ->
     (from <= o) & (symbols::command_fits(kind, file[o]) & delta::previous_allowed(file, from, o))
 }
 
-// The symbols of the change at `o` end at or below `end`.
+// Where the symbols of the change at `o` end.
+fn symbols_end(file: &[u8], width: u32, o: usize) -> usize
+    requires { ⌜ (width ≤ widestFacility) × (o < length (now file)) ⌝ }
+    ensures { λ r. ⌜ r ≡ dataAt (now (file .entry)) o + packedSize (symbolSize (commandOf (now (file .entry)) o)) width ⌝ }
+{
+    delta::data_at(file, o) + symbols::packed_size(symbols::size_of(file[o]), width)
+}
+
+// They end at or below `end`.
 pub fn symbols_fit(file: &[u8], end: usize, width: u32, o: usize) -> bool
     requires { ⌜ (width ≤ widestFacility) × (o < length (now file)) ⌝ }
     ensures { λ r. ⌜ r ≡ leb (dataAt (now (file .entry)) o + packedSize (symbolSize (commandOf (now (file .entry)) o)) width) end ⌝ }
 {
-    delta::data_at(file, o) + symbols::packed_size(symbols::size_of(file[o]), width) <= end
+    symbols_end(file, width, o) <= end
 }
 
 // All bytes from `from` up to `to` hold only codes of symbols. Every byte is read, so that the loop has no
@@ -79,10 +88,12 @@ fn symbols_keep(file: &[u8], end: usize, width: u32, o: usize) -> Kept
     requires { ⌜ ((1 ≤ width) × (width ≤ widestFacility)) × ((o < length (now file)) × (end ≤ length (now file))) ⌝ }
     ensures { λ r. ⌜ SymbolsKept (now (file .entry)) end width o r ⌝ }
 {
-    if !symbols_fit(file, end, width, o) {
+    let to = symbols_end(file, width, o);
+    if end < to {
         return Kept {
             kept: false,
             clean: false,
+            end: 0,
         };
     }
     let b = symbols::size_of(file[o]);
@@ -90,6 +101,7 @@ fn symbols_keep(file: &[u8], end: usize, width: u32, o: usize) -> Kept
     Kept {
         kept: codes_good(file, b, width, at),
         clean: padding::padding_clean(file, b, width, at),
+        end: to,
     }
 }
 
@@ -102,6 +114,7 @@ pub fn bits_keep(file: &[u8], from: usize, end: usize, width: u32, o: usize) -> 
         return Kept {
             kept: false,
             clean: false,
+            end: 0,
         };
     }
     symbols_keep(file, end, width, o)
@@ -116,6 +129,7 @@ pub fn others_keep(file: &[u8], from: usize, end: usize, kind: Kind, width: u32,
         return Kept {
             kept: false,
             clean: false,
+            end: 0,
         };
     }
     let at = delta::data_at(file, o);
@@ -123,18 +137,28 @@ pub fn others_keep(file: &[u8], from: usize, end: usize, kind: Kind, width: u32,
         Kind::Bits => Kept {
             kept: false,
             clean: false,
+            end: 0,
         },
-        Kind::Integer => Kept {
-            kept: symbols_fit(file, end, 32, o),
-            clean: true,
-        },
+        Kind::Integer => {
+            let to = symbols_end(file, 32, o);
+            Kept {
+                kept: to <= end,
+                clean: true,
+                end: to,
+            }
+        }
         Kind::Real => Kept {
             kept: at + 8 <= end,
             clean: true,
+            end: at + 8,
         },
-        Kind::Text => Kept {
-            kept: zero_from(file, at, end) < end,
-            clean: true,
-        },
+        Kind::Text => {
+            let zero = zero_from(file, at, end);
+            Kept {
+                kept: zero < end,
+                clean: true,
+                end: zero + 1,
+            }
+        }
     }
 }

@@ -28,6 +28,7 @@ pub mod Columns
 pub mod ShortTimes
 pub mod ShortTimesLaws
 pub mod Questions
+pub mod Stray
 pub mod Everything
 pub mod Traces
 pub mod Examples
@@ -35,3 +36,4 @@ pub mod Neighbours
 pub mod Padding
 pub mod ZeroDeltas
 pub mod WideTimes
+pub mod StrayBytes

@@ -47,6 +47,13 @@ nameTable s = namesIn (facilityCount s) (slice (sectionOf s 0x03 + 8) (endOf s) 
 unfoldable pub namesAllowed : List ℕ → Bool
 namesAllowed s = withinMemory (u32At s (sectionOf s 0x03 + 4)) (nameTable s)
 
+-- the bytes that n names take in the bytes bs: each has its 2 prefix bytes, its suffix and a zero
+unfoldable pub namesSize : ℕ → List ℕ → ℕ
+namesSize zero bs = 0
+namesSize (suc n) bs =
+    let size : ℕ = 2 + toZero (drop 2 bs) + 1 in
+    size + namesSize n (drop size bs)
+
 -- the name of facility f, expanded
 abbrev pub nameAmong : ℕ → Option (List (List ℕ)) → List ℕ
 nameAmong f none = []

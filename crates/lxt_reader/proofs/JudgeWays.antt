@@ -16,6 +16,9 @@ use Rattle.lxt_format.specs.BasicsLaws.{on-test, and-both, answer-given, answer
 use Rattle.lxt_format.specs.Sections.{sectionOf, present, timescaleAllowed, timescaleOf}
 use Rattle.lxt_format.specs.Judge.{fileRefusal, allClean, summaryOf, judge}
 use Rattle.lxt_format.specs.JudgeLaws.{accepted}
+use Rattle.lxt_format.specs.Stray.{strayBytes, strayAsked}
+use Rattle.lxt_chains.specs.Sweep.{Counts}
+use Rattle.lxt_chains.specs.declared.stray.Counted.{Counted}
 use Rattle.lxt_tables.specs.Stage.{tablesOf}
 use Rattle.lxt_tables.specs.declared.Tables.{Tables}
 use Rattle.lxt_tables.proofs.TablesLaws.{known, refusal-is}
@@ -53,3 +56,14 @@ module _ (s : List ℕ) (t : Tables) (e : t ≡ tablesOf s) where
           let k = known s t e tables-fine in
           let fits : SFits w8 (t .timescale) = rw (k .timescale) (timescale-fits s) in
           rw (toZ-ofZ w8 (t .timescale) fits, k .facilities, k .changes, k .end, k .timescale, k .initial, ez) (sym (answer-given (fileRefusal s) _ (sym er ∙ h)))
+
+-- ---- stray bytes
+
+module _ (s : List ℕ) (c : Counted) (w : Counts s c) where
+  pub stray-refused : (c .refusal ≡ 0 → ⊥) → refused (c .refusal) ≡ strayAsked s
+  unfolding strayAsked
+  stray-refused n = rw (w .refusal) (sym (answer-refused (fileRefusal s) (strayBytes s) (λ z. n (w .refusal ∙ z))))
+
+  pub stray-given : c .refusal ≡ 0 → given (c .stray) ≡ strayAsked s
+  unfolding strayAsked
+  stray-given h = rw (w .stray h) (sym (answer-given (fileRefusal s) (strayBytes s) (sym (w .refusal) ∙ h)))

@@ -7,9 +7,12 @@ pub mod values;
 
 ghost use mathlib.Core.Path.{_≡_};
 ghost use Rattle.lxt_format.specs.Judge.{judge};
-ghost use Rattle.lxt_format.specs.Answers.{judgementSays};
+ghost use Rattle.lxt_format.specs.Stray.{strayAsked};
+ghost use Rattle.lxt_format.specs.Answers.{judgementSays, numberSays};
+use lxt_chains::stray::count;
 use lxt_chains::whole::judged;
 use lxt_format::Judgement;
+use lxt_format::NumberAnswer;
 use lxt_format::Summary;
 
 // n, C, T, timescale, initial symbol and whether the padding of every change is 0, or the refusal's number.
@@ -29,4 +32,15 @@ pub fn judge(file: &[u8]) -> Judgement
         initial: t.initial,
         clean: j.clean,
     })
+}
+
+// How many bytes of the file lie in no change and in no section, or the refusal's number.
+pub fn stray(file: &[u8]) -> NumberAnswer
+    ensures { λ r. ⌜ numberSays r ≡ strayAsked (now (file .entry)) ⌝ }
+{
+    let c = count(file);
+    if c.refusal != 0 {
+        return NumberAnswer::Refused(c.refusal);
+    }
+    NumberAnswer::Number(c.stray)
 }

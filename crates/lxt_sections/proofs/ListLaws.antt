@@ -44,7 +44,7 @@ values-put i (suc k) (suc tag) v met =
 
 table-put : (tag v : ℕ) (met : List Item) → set (tableOf met) tag v ≡ tableOf (item tag v ∷ met)
 unfolding tableOf
-table-put tag v met = values-put 0 19 tag v met ∙ (let e : 0 + tag ≡ tag = omega arith in rw e)
+table-put tag v met = values-put 0 21 tag v met ∙ (let e : 0 + tag ≡ tag = omega arith in rw e)
 
 -- What holds at the tag at p, with the table t of the values met so far: the rest of the list gives what the whole list gives.
 pub record Reading (s : List ℕ) (p : ℕ) (t : List ℕ) : Type 0 where
@@ -53,7 +53,7 @@ pub record Reading (s : List ℕ) (p : ℕ) (t : List ℕ) : Type 0 where
   pub table : t ≡ tableOf met
   pub whole : listAt s p met ≡ listingOf s
 
-pub begun : (s : List ℕ) (p : ℕ) → p ≡ length s - 2 → Reading s p (replicate 19 0)
+pub begun : (s : List ℕ) (p : ℕ) → p ≡ length s - 2 → Reading s p (replicate 21 0)
 unfolding tableOf range valueIn
 begun s p e = record { within = omega arith; met = []; table = refl; whole = rw e (sym (listing-at s)) }
 
@@ -64,7 +64,7 @@ module _ (s : List ℕ) (p : ℕ) (t : List ℕ) (w : Reading s p t) where
   listed-is r e = rw (← e, w .whole)
 
   abbrev nothing : Listing
-  nothing = record { listed = false; table = replicate 19 0; end = 0 }
+  nothing = record { listed = false; table = replicate 21 0; end = 0 }
 
   empty : listAt s p (w .met) ≡ unlisted → nothing ≡ listedOf s
   unfolding tableOf range valueIn

@@ -35,6 +35,8 @@ pub placed-is : (s : List ℕ) (l : Listing) → l ≡ listedOf s → (z : Bool)
       initial = getD (l .table) 7 0;
       «real_test» = getD (l .table) 8 0;
       «wide_times» = getD (l .table) 9 0;
+      excluded = getD (l .table) 19 0;
+      «time_zero» = getD (l .table) 20 0;
     } ≡ placesOf s
 unfolding placesOf listedOf tableOf range any present sectionOf endOf changesFrom
 placed-is s l e z ez = rw (ez, e)
@@ -57,7 +59,7 @@ unfolding allInside placesOf bodiesInside bodyInside bodySize all range present
 all-inside-is s = refl
 
 -- what does not lie inside does not with more bytes
-outside-more : (T start k j : ℕ) → inside T start k ≡ false → inside T start (k + j) ≡ false
+pub outside-more : (T start k j : ℕ) → inside T start k ≡ false → inside T start (k + j) ≡ false
 outside-more T start k j h =
     elim (decLe (start + k) T) [
       | yes l ↦ (let q : (leb 4 start && true) ≡ false = rw (le-leb (start + k) T l) at h in
@@ -173,6 +175,8 @@ module _ (s : List ℕ) (p : Places) (e : p ≡ placesOf s) where
         times = table;
         initial = p .initial;
         «real_test» = p .«real_test»;
+        excluded = p .excluded;
+        «time_zero» = p .«time_zero»;
       } ≡ found (countedRefusal s) s
       unfolding countedRefusal countAllowed found placesOf
       all-found h =

@@ -15,9 +15,9 @@ use Rattle.lxt_sections.specs.declared.Sections.{Sections}
 unfoldable pub frameRefusal : List ℕ → ℕ
 frameRefusal s = 1 unless lengthAllowed s orElse 2 unless startsRight s orElse 3 unless endsRight s
 
--- the counting value of each tag from 00 to 12 hex
+-- the counting value of each tag from 00 to 14 hex
 unfoldable pub tableOf : List Item → List ℕ
-tableOf items = map (λ tag. valueIn tag items) (range 0 19)
+tableOf items = map (λ tag. valueIn tag items) (range 0 21)
 
 unfoldable pub listedOf : List ℕ → Listing
 listedOf s = record { listed = listingOf s .listed; table = tableOf (listingOf s .items); end = listingOf s .end }
@@ -38,6 +38,8 @@ placesOf s =
       initial = sectionOf s 0x07;
       «real_test» = sectionOf s 0x08;
       «wide_times» = sectionOf s 0x09;
+      excluded = sectionOf s 0x13;
+      «time_zero» = sectionOf s 0x14;
     }
 
 -- the table of times: whether it is that of tag 09, and where it starts
@@ -100,6 +102,8 @@ refusedWith n =
       times = 0;
       initial = 0;
       «real_test» = 0;
+      excluded = 0;
+      «time_zero» = 0;
     }
 
 -- the sections where nothing is refused, else the refusal
@@ -119,6 +123,8 @@ found refusal s =
       times = timesAt s;
       initial = sectionOf s 0x07;
       «real_test» = sectionOf s 0x08;
+      excluded = sectionOf s 0x13;
+      «time_zero» = sectionOf s 0x14;
     }
     else refusedWith refusal
 

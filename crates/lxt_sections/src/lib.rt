@@ -87,8 +87,8 @@ fn frame(file: &[u8]) -> u8
     0
 }
 
-// How many tags there are, from 00 to 12 hex.
-const TAGS: usize = 19;
+// How many tags there are, from 00 to 14 hex.
+const TAGS: usize = 21;
 
 // The section list: whether END was met, the counting value of each tag, and END's offset.
 pub struct Listing {
@@ -109,7 +109,7 @@ fn put(table: [u32; TAGS], tag: usize, value: u32) -> [u32; TAGS]
 }
 
 fn unlisted() -> Listing
-    ensures { λ r. ⌜ r ≡ record { listed = false; table = replicate 19 0; end = 0 } ⌝ }
+    ensures { λ r. ⌜ r ≡ record { listed = false; table = replicate 21 0; end = 0 } ⌝ }
 {
     Listing {
         listed: false,
@@ -149,7 +149,8 @@ fn list(file: &[u8]) -> Listing
 }
 
 // What the section list says, by name: C, where each section starts (0 where it is absent), whether a
-// compressed section is there, and T.
+// compressed section is there, and T. `excluded` is tag 13, a table of excluded times; `time_zero` is tag 14,
+// an offset of all times.
 pub struct Places {
     pub listed: bool,
     pub compressed: bool,
@@ -163,6 +164,8 @@ pub struct Places {
     pub initial: u32,
     pub real_test: u32,
     pub wide_times: u32,
+    pub excluded: u32,
+    pub time_zero: u32,
 }
 
 // One of the tags 0A to 12 counts.
@@ -196,6 +199,8 @@ fn placed(file: &[u8]) -> Places
         initial: t[7],
         real_test: t[8],
         wide_times: t[9],
+        excluded: t[19],
+        time_zero: t[20],
     }
 }
 
@@ -262,6 +267,8 @@ pub struct Sections {
     pub times: u32,
     pub initial: u32,
     pub real_test: u32,
+    pub excluded: u32,
+    pub time_zero: u32,
 }
 
 fn refused(n: u8) -> Sections
@@ -281,6 +288,8 @@ fn refused(n: u8) -> Sections
         times: 0,
         initial: 0,
         real_test: 0,
+        excluded: 0,
+        time_zero: 0,
     }
 }
 
@@ -319,6 +328,8 @@ fn counted(file: &[u8], p: Places) -> Sections
         times: table,
         initial: p.initial,
         real_test: p.real_test,
+        excluded: p.excluded,
+        time_zero: p.time_zero,
     }
 }
 

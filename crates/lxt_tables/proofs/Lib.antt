@@ -7,4 +7,5 @@ pub mod RootsLaws
 pub mod RealsLaws
 pub mod SingleLaws
 pub mod WholeLaws
+pub mod PartLaws
 pub mod TablesLaws

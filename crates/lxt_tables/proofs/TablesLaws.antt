@@ -10,7 +10,7 @@ use native.Mathlib.Decide.{ℕ-discrete}
 use borrow.Author.Tests.{ne-eqb, not-true}
 use Rattle.lxt_format.specs.Limits.{longestFile, mostFacilities, widestFacility}
 use Rattle.lxt_format.specs.Basics.{if_then_else_, range, any, select}
-use Rattle.lxt_format.specs.BasicsLaws.{on-test, all-range}
+use Rattle.lxt_format.specs.BasicsLaws.{on-test, all-range, neither}
 use Rattle.lxt_format.specs.Sections.{sectionOf, endOf, changesFrom, facilityCount, wideTimes, timesAt, timeCount, timescaleOf, initialOf}
 use Rattle.lxt_format.specs.Geometry.{isAlias, geometryAllowed, geometriesAllowed, rootOf, flagsOf, kindOfFlags, factsBy, msbOf, lsbOf, ownFacts, rootsOf, syncOf}
 use Rattle.lxt_format.specs.GeometryLaws.{root-below, root-no-alias}
@@ -20,10 +20,13 @@ use Rattle.lxt_format.specs.Judge.{tablesRefusal, fileRefusal}
 use Rattle.lxt_format.specs.JudgeLaws.{Passed, passed, passed-located, passed-length, passed-count, accepted}
 use Rattle.lxt_format.specs.declared.Kind.{Kind}
 use Rattle.lxt_format.specs.declared.Kind.the-variants.{Bits, Integer, Real, Text}
-use Rattle.lxt_tables.specs.Stage.{Geometry, tablesOf}
-use Rattle.lxt_tables.specs.Asked.{Sync, Times}
+use Rattle.lxt_sections.specs.Stage.{sectionsOf}
+use Rattle.lxt_sections.specs.declared.Sections.{Sections}
+use Rattle.lxt_tables.specs.Stage.{Geometry, namesEnd, tablesOf}
+use Rattle.lxt_tables.specs.Asked.{Sync, Times, Placed}
 use Rattle.lxt_tables.specs.declared.Tables.{Tables}
 use Rattle.lxt_tables.proofs.FacilityLaws.{width-fits}
+use Rattle.lxt_tables.proofs.WholeLaws.{sections-refusal, placed, in-parts}
 
 -- the tables of a file that refusals 1 to 14 pass
 pub record Known (s : List ℕ) (t : Tables) : Type 0 where
@@ -35,6 +38,7 @@ pub record Known (s : List ℕ) (t : Tables) : Type 0 where
   pub changes : t .changes ≡ changesFrom s
   pub sync : t .sync ≡ sectionOf s 0x02
   pub names : t .names ≡ sectionOf s 0x03
+  pub names-end : t .«names_end» ≡ namesEnd s
   pub geometry : t .geometry ≡ sectionOf s 0x04
   pub wide : t .«wide_times» ≡ wideTimes s
   pub times : t .times ≡ timesAt s
@@ -74,6 +78,7 @@ module _ (s : List ℕ) (t : Tables) (e : t ≡ tablesOf s) where
         changes = refl;
         sync = refl;
         names = refl;
+        names-end = refl;
         geometry = refl;
         wide = refl;
         times = refl;
@@ -91,6 +96,15 @@ module _ (s : List ℕ) (t : Tables) (e : t ≡ tablesOf s) where
         sync-at = record { start = refl; count = refl; inside = omega (arith, l) };
         times-at = record { start = refl; count = refl; form = refl; limit = refl; low = l .end-low; high = omega (arith, l); inside = omega (arith, l) };
       }
+
+  pub names-end-of : tablesRefusal s ≡ 0 → t .«names_end» ≡ namesEnd s
+  names-end-of z = known (refusal-is ∙ z) .names-end
+
+-- ---- the sections of a file whose tables pass
+
+module _ (s : List ℕ) (p : Sections) (e : p ≡ sectionsOf s) where
+  pub tables-placed : tablesRefusal s ≡ 0 → Placed s p
+  tables-placed z = placed s p e (sections-refusal s p e ∙ neither _ _ (sym (in-parts s) ∙ z) .0)
 
 -- ---- facilities
 

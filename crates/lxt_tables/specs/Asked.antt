@@ -6,7 +6,7 @@ use mathlib.Core.List.{List, [], _∷_}
 use lib.ListN.{length, getD}
 use lib.Signed.{mag}
 use lib.Dec.{ltb, leb}
-use Rattle.lxt_format.specs.Limits.{mostFacilities}
+use Rattle.lxt_format.specs.Limits.{longestFile, mostFacilities}
 use Rattle.lxt_format.specs.Sections.{sectionOf, endOf, facilityCount, wideTimes, timesAt, timeCount, timesSize}
 use Rattle.lxt_format.specs.Geometry.{rootOf, aliasesAllowed}
 use Rattle.lxt_format.specs.Times.{timeOfBytes, firstTime, lastTime, positionDeltas, timeDeltaBytes}
@@ -70,6 +70,7 @@ pub record Placed (s : List ℕ) (p : Sections) : Type 0 where
   pub passed : sectionsRefusal s ≡ 0
   pub places : p ≡ found 0 s
   pub few : p .facilities ≤ mostFacilities
+  pub end-fits : p .end ≤ longestFile
   pub geometry : Geometry s (p .geometry) (p .facilities)
   pub sync : Sync s (p .sync) (p .facilities)
   pub times : Times s (p .times) (p .«time_count») (p .«wide_times») (p .end)

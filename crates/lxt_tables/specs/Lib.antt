@@ -1,3 +1,4 @@
 pub mod Stage
 pub mod Asked
 pub mod Steps
+pub mod Parts

@@ -10,6 +10,7 @@ use Rattle.lxt_format.specs.Basics.{if_then_else_}
 use Rattle.lxt_format.specs.Sections.{sectionOf, endOf, changesFrom, facilityCount, wideTimes, timesAt, timeCount, timescaleOf, initialOf}
 use Rattle.lxt_format.specs.Reals.{hasReal, byteOrder}
 use Rattle.lxt_format.specs.Judge.{tablesRefusal}
+use Rattle.lxt_format.specs.Stray.{wholeSize}
 use Rattle.lxt_tables.specs.declared.Tables.{Tables}
 
 -- where the geometry lies, and n
@@ -17,6 +18,10 @@ pub record Geometry (s : List ℕ) (geometry n : ℕ) : Type 0 where
   pub start : geometry ≡ sectionOf s 0x04
   pub count : n ≡ facilityCount s
   pub inside : geometry + 16 * n ≤ length s
+
+-- the offset after the last name
+abbrev pub namesEnd : List ℕ → ℕ
+namesEnd s = sectionOf s 0x03 + wholeSize s 0x03
 
 -- a refusal's number, and all else 0
 abbrev pub refusedTables : ℕ → Tables
@@ -30,6 +35,7 @@ refusedTables k =
       changes = 0;
       sync = 0;
       names = 0;
+      «names_end» = 0;
       geometry = 0;
       times = 0;
       timescale = pos 0;
@@ -49,6 +55,7 @@ tablesOf s =
       changes = changesFrom s;
       sync = sectionOf s 0x02;
       names = sectionOf s 0x03;
+      «names_end» = namesEnd s;
       geometry = sectionOf s 0x04;
       times = timesAt s;
       timescale = timescaleOf s;

@@ -1,28 +1,27 @@
 // The names of a trace: refusal 10. No name is kept; the lengths decide.
 ghost use mathlib.Core.Path.{_≡_};
-ghost use mathlib.Core.List.{[]};
-ghost use Prim.Native.Nat.{_+_, _≤_};
+ghost use Prim.Native.Nat.{_≤_};
 ghost use lib.ListN.{length};
-ghost use lib.Seq.{slice};
-ghost use Rattle.lxt_format.specs.Names.{namesIn, withinMemory, namesAllowed};
 ghost use Rattle.lxt_tables.specs.Asked.{Placed};
+ghost use Rattle.lxt_tables.specs.Steps.{endOfNames, nameTableEnd};
 use lxt_format::NameCursor;
 use lxt_sections::Sections;
 use lxt_sections::be16;
 use lxt_sections::be32;
 use lxt_sections::zeros::zero_from;
 
-// The `n` names from `at` up to `end` keep the rules, and M is not too small for them.
-pub fn names_allowed(file: &[u8], at: usize, end: usize, n: u32, memory: u32) -> bool
+// The offset after the last of `n` names that stand from `at` up to `end`; 0 where they break a rule, or M is
+// too small for them.
+pub fn names_end(file: &[u8], at: usize, end: usize, n: u32, memory: u32) -> usize
     requires { ⌜ (at ≤ end) × (end ≤ length (now file)) ⌝ }
-    ensures { λ r. ⌜ r ≡ withinMemory memory (namesIn n (slice at end (now (file .entry))) []) ⌝ }
+    ensures { λ r. ⌜ (r ≡ endOfNames (now (file .entry)) at end n memory) × (r ≤ end) ⌝ }
 {
     let mut next = NameCursor::fresh(at, memory as usize);
     let mut left = n;
     while 0 < left {
         let p = next.at;
         if end - p < 2 {
-            return false;
+            return 0;
         }
         let prefix = be16(file, p) as usize;
         let from = p + 2;
@@ -32,7 +31,7 @@ pub fn names_allowed(file: &[u8], at: usize, end: usize, n: u32, memory: u32) ->
             & ((zero < end)
                 & (NameCursor::length_is_allowed(length) & (length + 1 <= next.memory)));
         if !allowed {
-            return false;
+            return 0;
         }
         next = NameCursor {
             at: zero + 1,
@@ -41,15 +40,15 @@ pub fn names_allowed(file: &[u8], at: usize, end: usize, n: u32, memory: u32) ->
         };
         left -= 1;
     }
-    true
+    next.at
 }
 
-// Refusal 10. The names follow the head, which holds n and M.
-pub fn name_table_allowed(file: &[u8], p: Sections) -> bool
+// The offset after the last name; 0 is refusal 10. The names follow the head, which holds n and M.
+pub fn name_table_end(file: &[u8], p: Sections) -> u32
     requires { ⌜ Placed (now file) p ⌝ }
-    ensures { λ r. ⌜ r ≡ namesAllowed (now (file .entry)) ⌝ }
+    ensures { λ r. ⌜ r ≡ nameTableEnd (now (file .entry)) ⌝ }
 {
     let head = p.names as usize;
     let memory = be32(file, head + 4);
-    names_allowed(file, head + 8, p.end, p.facilities, memory)
+    names_end(file, head + 8, p.end, p.facilities, memory) as u32
 }

@@ -4,33 +4,40 @@
 #![forbid(unsafe_code)]
 
 pub mod judge;
+pub mod overlays;
 pub mod questions;
+pub mod stray;
 pub mod times;
 pub mod walk;
 
 use std::collections::BTreeMap;
 use std::fs;
+use std::io;
 use std::ops::Range;
 use std::path::Path;
 
 use lxt_generate::Case;
 
-/// The traces of the folder by name, those of at most so many bytes.
+/// The traces of the repository by name, those of at most so many bytes.
 pub fn traces(longest: usize) -> Vec<(String, Vec<u8>)> {
     let folder = Path::new(env!("CARGO_MANIFEST_DIR")).join("../../traces");
+    let mut traces = traces_in(&folder).expect("the folder of traces");
+    traces.retain(|(_, file)| file.len() <= longest);
+    traces
+}
+
+/// The traces of a folder by name: its files `*.lxt`.
+pub fn traces_in(folder: &Path) -> io::Result<Vec<(String, Vec<u8>)>> {
     let mut traces = Vec::new();
-    for entry in fs::read_dir(folder).expect("the folder of traces") {
-        let path = entry.expect("an entry of the folder").path();
+    for entry in fs::read_dir(folder)? {
+        let path = entry?.path();
         if path.extension().is_some_and(|extension| extension == "lxt") {
-            let file = fs::read(&path).expect("a trace");
-            if file.len() <= longest {
-                let name = path.file_name().expect("a name").to_string_lossy();
-                traces.push((name.into_owned(), file));
-            }
+            let name = path.file_name().unwrap_or_default().to_string_lossy();
+            traces.push((name.into_owned(), fs::read(&path)?));
         }
     }
     traces.sort();
-    traces
+    Ok(traces)
 }
 
 /// Generated files by their origin, those of so many bytes at most.
@@ -53,9 +60,10 @@ pub const MADE: [Making; 4] = [
     ("aliases", lxt_generate::aliases),
 ];
 
-/// The nine calls.
-pub const CALLS: [&str; 9] = [
+/// The ten calls.
+pub const CALLS: [&str; 10] = [
     "judge",
+    "stray",
     "facts",
     "root",
     "name",
@@ -73,7 +81,7 @@ pub fn can_refuse(call: &str, number: u8) -> bool {
         _ => 1..=17,
     };
     let question: &[u8] = match call {
-        "judge" => &[],
+        "judge" | "stray" => &[],
         "facts" | "root" => &[18],
         "name" | "value_at" => &[18, 21],
         "change_before" => &[18, 19],
@@ -89,6 +97,7 @@ pub fn can_refuse(call: &str, number: u8) -> bool {
 pub struct Compared {
     pub files: u64,
     judged: judge::Seen,
+    stray: stray::Seen,
     questions: questions::Seen,
     walks: walk::Seen,
 }
@@ -107,6 +116,7 @@ impl Compared {
         };
         self.files += 1;
         judge::compare(file, what, &mut self.judged);
+        let _ = stray::compare(file, what, &mut self.stray);
         questions::compare(file, what, most, &mut self.questions);
         walk::start_refusals(file, what, &mut self.walks);
         if file.len() <= 30_000 {
@@ -126,8 +136,10 @@ impl Compared {
         let mut answers = BTreeMap::new();
         let judged = self.judged.answers.iter();
         let judged = judged.map(|(number, count)| ("judge", *number, u64::from(*count)));
+        let stray = self.stray.answers.iter();
+        let stray = stray.map(|(number, count)| ("stray", *number, *count));
         let others = self.questions.answers().chain(self.walks.answers());
-        for (call, number, count) in judged.chain(others) {
+        for (call, number, count) in judged.chain(stray).chain(others) {
             *answers.entry((call, number)).or_default() += count;
         }
         answers
@@ -138,6 +150,14 @@ impl Compared {
         let judged = |clean| self.judged.padding.get(&clean).copied().unwrap_or(0);
         let judged = [true, false].map(|clean| u64::from(judged(clean)));
         [("judge", judged), ("change", self.questions.padding())]
+    }
+
+    /// How many accepted files had stray bytes, and how many had none.
+    pub fn stray(&self) -> [(&'static str, u64); 2] {
+        [
+            ("accepted files with stray bytes", self.stray.with),
+            ("accepted files without stray bytes", self.stray.without),
+        ]
     }
 
     /// How many times zero deltas of the times were met: in accepted files, and where it shows which of the

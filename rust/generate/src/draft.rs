@@ -249,9 +249,33 @@ impl Draft {
             },
             0x04 => 16 * self.facilities.len(),
             SHORT_TIMES | LONG_TIMES => table_length(tag, self.word(self.start(tag)) as usize),
-            0x08 => 8,
+            0x08 | 0x14 => 8,
+            // A count, then 16 bytes each.
+            0x13 => 4 + 16 * self.word(self.start(tag)) as usize,
             _ => 1,
         }
+    }
+
+    /// Of each byte before T whether it is stray: from offset 4 on, in no change and in no section that lies
+    /// wholly there.
+    pub fn stray(&self) -> Vec<bool> {
+        let mut stray = vec![true; self.end()];
+        stray[..4].fill(false);
+        for change in &self.changes {
+            stray[change.offset..change.end].fill(false);
+        }
+        for tag in (0x02..=0x09).chain([0x13, 0x14]) {
+            let (start, length) = (self.start(tag), self.body_length(tag));
+            if start >= 4 && start + length <= self.end() {
+                stray[start..start + length].fill(false);
+            }
+        }
+        stray
+    }
+
+    /// How many bytes are stray.
+    pub fn stray_bytes(&self) -> usize {
+        self.stray().iter().filter(|stray| **stray).count()
     }
 
     /// Moves a body, by copying it, to the end, so that it ends at T. Gives its new start.

@@ -20,10 +20,37 @@ pub struct Large {
 
 /// The file of a shape that leaves room for changes.
 pub fn large(shape: &Large) -> Vec<u8> {
+    large_with_gaps(shape, 0)
+}
+
+/// The same with so many stray bytes behind each change. The sections stand before the changes.
+pub fn large_with_gaps(shape: &Large, gap: usize) -> Vec<u8> {
     let mut random = Random::new(shape.facilities as u64);
     let n = shape.facilities;
     let mut draft = Draft::new(4);
+    let names = append_names(&mut draft, n);
+    let geometry = draft.end();
+    for _ in 0..n {
+        draft.append_words(&[0, shape.width - 1, 0, 0]);
+    }
+    let sync = draft.append(&vec![0; 4 * n]);
+    let tag = shape.times_tag;
+    let times = draft.append(&vec![0; table_length(tag, shape.entries)]);
+    let changes = draft.end();
+    draft.items = vec![
+        (0x01, changes as u32),
+        (0x02, sync as u32),
+        (0x03, names as u32),
+        (0x04, geometry as u32),
+        (tag, times as u32),
+    ];
+    append_changes(&mut random, &mut draft, shape, gap);
+    fill_times(&mut random, &mut draft, shape);
+    draft.bytes()
+}
 
+/// The names of so many facilities; gives where they start.
+fn append_names(draft: &mut Draft, n: usize) -> usize {
     let mut names = Vec::new();
     let mut memory = 0;
     let mut before = String::new();
@@ -37,30 +64,19 @@ pub fn large(shape: &Large) -> Vec<u8> {
         memory += name.len() as u32 + 1;
         before = name;
     }
-    let names_at = draft.append_words(&[n as u32, memory]);
+    let start = draft.append_words(&[n as u32, memory]);
     draft.append(&names);
-    let geometry = draft.end();
-    for _ in 0..n {
-        draft.append_words(&[0, shape.width - 1, 0, 0]);
-    }
-    let sync = draft.append(&vec![0; 4 * n]);
-    let tag = shape.times_tag;
-    let times = draft.append(&vec![0; table_length(tag, shape.entries)]);
-    let changes = draft.end();
-    draft.items = vec![
-        (0x01, changes as u32),
-        (0x02, sync as u32),
-        (0x03, names_at as u32),
-        (0x04, geometry as u32),
-        (tag, times as u32),
-    ];
+    start
+}
 
+/// Changes of any facility, up to the length of the file.
+fn append_changes(random: &mut Random, draft: &mut Draft, shape: &Large, gap: usize) {
     // Behind the body: END, five items, B4.
     let end = shape.bytes - (1 + 5 * 5 + 1);
     let width = shape.width as usize;
     // A change of 4-bit symbols is the longest.
-    while draft.end() + 5 + width.div_ceil(2) <= end {
-        let root = random.below(n);
+    while draft.end() + 5 + width.div_ceil(2) + gap <= end {
+        let root = random.below(shape.facilities);
         let command = random.pick(&[0, 0, 0, 0, 1, 2, 3, 4, 4, 6]);
         let (symbol, codes) = [(1, 2), (2, 4), (4, 9)]
             .get(command)
@@ -74,9 +90,13 @@ pub fn large(shape: &Large) -> Vec<u8> {
             }
         };
         draft.append_change(root, command as u8, 1, &data);
+        draft.append(&vec![0; gap]);
     }
+}
 
-    // Entries evenly over the changes.
+/// Entries evenly over the changes.
+fn fill_times(random: &mut Random, draft: &mut Draft, shape: &Large) {
+    let (tag, times, changes) = (shape.times_tag, draft.times_at(), draft.start(0x01));
     let room = draft.end() - changes;
     let position = |entry: usize| changes + entry * room / shape.entries;
     draft.set_word(times, shape.entries as u32);
@@ -92,5 +112,4 @@ pub fn large(shape: &Large) -> Vec<u8> {
         let time_at = positions_at + 4 * shape.entries + bytes * entry;
         draft.set(time_at, &time_bytes(tag, random.within_signed(1, 20)));
     }
-    draft.bytes()
 }

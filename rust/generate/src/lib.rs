@@ -14,6 +14,7 @@ mod joined;
 mod large;
 mod random;
 mod records;
+mod strays;
 mod tables;
 mod times;
 mod valid;
@@ -26,9 +27,10 @@ pub use draft::{change_bytes, Change, Draft, Facility, Kind, Meant};
 pub use edges::{edges, WINDOW};
 pub use hostile::{hostile, hostile_chains, hostile_large, most_visits, widest_sharing, Hostile};
 pub use joined::joined;
-pub use large::{large, Large};
+pub use large::{large, large_with_gaps, Large};
 pub use random::Random;
 pub use records::{record, Landmarks, Pending};
+pub use strays::{strays, Strays};
 pub use times::{head_length, other_times, time_length, LONG_TIMES, SHORT_TIMES};
 pub use valid::{pack, valid, valid_of, Shape, REAL_TEST};
 
@@ -41,16 +43,17 @@ pub struct Case {
     pub expected: Option<Result<(), u8>>,
 }
 
-/// A file for any seed: valid, with clean or dirty padding, near a boundary, over it, over two boundaries,
-/// dense, blindly damaged, or of changes that meet, chains that join, codes or aliases.
+/// A file for any seed: valid, with stray bytes, with clean or dirty padding, near a boundary, over it, over two
+/// boundaries, dense, blindly damaged, or of changes that meet, chains that join, codes or aliases.
 pub fn case(seed: u64) -> Case {
     let mut random = Random::new(seed ^ 0x4C58_5400_0000_0000);
     match random.below(24) {
-        0..=3 => Case {
+        0..=2 => Case {
             origin: "valid".to_string(),
             bytes: valid(random.any()).bytes(),
             expected: Some(Ok(())),
         },
+        3 => strays(random.any()).case(),
         4 => one_dirty(&mut random),
         5..=7 => {
             let (damage, neighbours) = any_damage(&mut random);

@@ -5,33 +5,13 @@ use std::collections::BTreeMap;
 use lxt_generate::*;
 use lxt_reference as reader;
 use lxt_reference::{Fault, Tables};
+use met::Met;
+
+#[allow(dead_code)]
+mod met;
 
 fn answer(bytes: &[u8]) -> u8 {
     reader::judge(bytes).err().unwrap_or(0)
-}
-
-/// How many times each thing was met.
-#[derive(Default)]
-struct Met(BTreeMap<String, u32>);
-
-impl Met {
-    fn meet(&mut self, what: impl Into<String>, met: bool) {
-        *self.0.entry(what.into()).or_default() += u32::from(met);
-    }
-
-    fn least(&self, least: u32) {
-        for (what, count) in &self.0 {
-            println!("{count:7} {what}");
-        }
-        for (what, count) in &self.0 {
-            assert!(*count >= least, "{what}: {count} of {least}");
-        }
-    }
-
-    fn least_of(&self, what: &str, least: u32) {
-        let count = self.0.get(what).copied().unwrap_or(0);
-        assert!(count >= least, "{what}: {count} of {least}");
-    }
 }
 
 /// Files of a making with what the reader answers, which is what the making settles where it does.

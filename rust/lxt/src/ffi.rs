@@ -66,6 +66,7 @@ pub(crate) mod c {
             summary: *mut Summary,
             timescale: *mut i8,
         ) -> u32;
+        pub fn lxt_stray(file: *const u8, length: usize, stray: *mut u32) -> u32;
         pub fn lxt_root(file: *const u8, length: usize, facility: u32, root: *mut u32) -> u32;
         pub fn lxt_name(
             file: *const u8,
@@ -143,6 +144,12 @@ pub(crate) fn judge(file: &[u8], summary: &mut c::Summary, timescale: &mut i8) -
             timescale as *mut i8,
         )
     }
+}
+
+/// How many stray bytes a file has; 0 or the refusal's number.
+pub(crate) fn stray(file: &[u8], stray: &mut u32) -> u32 {
+    // SAFETY: the slice's pointer and length are its own, and the `&mut` is not aliased.
+    unsafe { c::lxt_stray(file.as_ptr(), file.len(), stray as *mut u32) }
 }
 
 /// The root of a facility; 0 or the refusal's number.

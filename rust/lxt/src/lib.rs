@@ -23,9 +23,9 @@
 //! }
 //! ```
 //!
-//! Under it stand the functions of the C interface with slices for pointers: [`judge`], [`facts`],
-//! [`root`], [`name`], [`change_before`], [`change`], [`value_at`], [`start_walk`] and [`carry_on`]. They take
-//! any bytes, keep nothing between calls and allocate nothing. Each judges the file anew, whatever was asked
+//! Under it stand the functions of the C interface with slices for pointers: [`judge`], [`stray_bytes`],
+//! [`facts`], [`root`], [`name`], [`change_before`], [`change`], [`value_at`], [`start_walk`] and [`carry_on`].
+//! They take any bytes, keep nothing between calls and allocate nothing. Each judges the file anew, whatever was asked
 //! before; only `carry_on` checks less of it, its tables and the changes that are still to come. So many
 //! questions on one large file cost many times its judging, as docs/PERFORMANCE.md has it in figures: to
 //! read all changes of a large trace, walk, and do not ask for each of them.
@@ -179,6 +179,23 @@ pub fn judge(file: &[u8]) -> Result<Summary, Refusal> {
         initial: summary.initial as u8,
         clean: summary.clean != 0,
     })
+}
+
+/// How many stray bytes a file has: bytes from offset 4 up to T that belong to no change of a root and to no
+/// section.
+///
+/// A section counts with its whole body where it is there and lies wholly between offset 4 and T, whether
+/// it is read or passed over: tags 02 to 09, 13 and 14, and 08 also where no facility is real. So gaps are
+/// stray, bytes behind the last name too, and changes that no root leads to. The rules allow them.
+///
+/// They are the sign of a file that is made of two: a shorter trace saved over the start of a longer one may
+/// keep every rule, and bytes of the one run are then shown under the names of the other. Where there are
+/// some, a program that reports on a run should send no report. 0 says that every byte has its place, not
+/// that all of them are of one run: parts that fit together without a gap leave none.
+pub fn stray_bytes(file: &[u8]) -> Result<u32, Refusal> {
+    let mut stray = 0;
+    accepted(ffi::stray(file, &mut stray))?;
+    Ok(stray)
 }
 
 /// The room that asking for a name needs, in bytes.

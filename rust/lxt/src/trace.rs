@@ -96,6 +96,26 @@ impl<'a> Trace<'a> {
         self.summary
     }
 
+    /// How many bytes between the first four and the end of the sections belong to nothing, as
+    /// [`stray_bytes`](crate::stray_bytes) has it. With some the trace may be made of two.
+    ///
+    /// ```
+    /// use lxt::Trace;
+    ///
+    /// fn main() -> Result<(), Box<dyn std::error::Error>> {
+    ///     let shorter = std::fs::read("../../traces/gpsim_onereg.lxt")?;
+    ///     let mut file = std::fs::read("../../traces/lxtgen_many_7.lxt")?;
+    ///     assert_eq!(Trace::open(&file)?.stray_bytes()?, 0);
+    ///     // The shorter one saved over the start of the longer one is accepted.
+    ///     file[..shorter.len()].copy_from_slice(&shorter);
+    ///     assert!(Trace::open(&file)?.stray_bytes()? > 0);
+    ///     Ok(())
+    /// }
+    /// ```
+    pub fn stray_bytes(&self) -> Result<u32, Refusal> {
+        crate::stray_bytes(self.bytes)
+    }
+
     /// The numbers of the facilities: 0 up to n - 1.
     pub fn facilities(&self) -> Range<u32> {
         0..self.summary.facilities

@@ -84,7 +84,7 @@ int main(int count, char **words) {
     FILE *input = count > 1 ? fopen(words[1], "rb") : NULL;
     uint8_t *file = malloc(2000000);
     lxt_summary summary;
-    uint32_t n, f;
+    uint32_t n, f, stray;
     int8_t timescale;
     size_t length;
     if (input == NULL || file == NULL) return 2;
@@ -97,6 +97,7 @@ int main(int count, char **words) {
     n = summary.facilities;
     printf("%lu %lu %lu %c %lu %d\n", (unsigned long)n, (unsigned long)summary.changes,
            (unsigned long)summary.end, LXT_SYMBOLS[summary.initial], (unsigned long)summary.clean, timescale);
+    if (lxt_stray(file, length, &stray) == LXT_ACCEPTED) printf("stray %lu\n", (unsigned long)stray);
     for (f = 0; f <= n && f < 40; f++) {
         static const int64_t times[] = {50, -1, 0, INT64_MIN, 4294967296, INT64_MAX};
         uint32_t root, size, before, clean, offset, count = 0;
@@ -157,7 +158,7 @@ fn expected(file: &[u8]) -> String {
     let initial = char::from(b"01ZXHUWL-"[usize::from(it.initial)]);
     let clean = u32::from(it.clean);
     let mut out = format!("{n} {} {} {initial} {clean} ", it.changes, it.end);
-    out += &format!("{}\n", it.timescale);
+    out += &format!("{}\nstray {}\n", it.timescale, judged.stray_bytes());
     for facility in (0..=n).take(40) {
         let Ok(facts) = judged.facts(facility) else {
             out += &format!("{facility} refused\n");
@@ -251,7 +252,7 @@ fn a_c_program_answers_as_the_independent_reader() {
 }
 
 /// Files and the lines of the program, worked out by hand.
-fn by_hand() -> [(&'static str, Vec<u8>, String); 3] {
+fn by_hand() -> [(&'static str, Vec<u8>, String); 4] {
     // The values at 50, -1, 0, the least number, 2^32 and the greatest number, one symbol each.
     let values = |symbols: [&str; 6]| {
         symbols
@@ -261,7 +262,7 @@ fn by_hand() -> [(&'static str, Vec<u8>, String); 3] {
     let newest = |symbols: &'static str| values([symbols, "XXX", "XXX", "XXX", symbols, symbols]);
     // Rubbish in the padding of every packing; the times are 3 and 7.
     let padded = [
-        "3 4 139 X 0 -9\n",
+        "3 4 139 X 0 -9\nstray 0\n",
         "3 bits 2 0 0 one\n4 7 1 bits 3 101 0\n0 3 0 bits 3 011 0\n",
         &newest("101"),
         "3 bits 2 0 1 two\n7 7 1 bits 3 01Z 0\n0 3 0 bits 3 ZX1 0\n",
@@ -274,13 +275,22 @@ fn by_hand() -> [(&'static str, Vec<u8>, String); 3] {
     let small = |times: [&str; 2], symbols| {
         let [newer, older] = times;
         let changes = format!("4 {newer} 1 bits 1 0 0\n0 {older} 1 bits 1 1 0\n");
-        let head = "1 4 84 X 1 -9\n1 bits 0 0 0 a\n";
+        let head = "1 4 84 X 1 -9\nstray 0\n1 bits 0 0 0 a\n";
         let tail = "1 refused\n0 6\n0 4\nwalked 0\n";
         format!("{head}{changes}{}{tail}", values(symbols))
     };
     let (least, most) = (i64::MIN, i64::MAX);
+    // The change at 6 is the only one, so the two bytes of that at 4 are stray.
+    let mut one_change = TRACE;
+    one_change[7] = 4;
+    let stray = [
+        "1 4 68 X 1 -9\nstray 2\n1 bits 0 0 0 a\n0 5 1 bits 1 0 0\n",
+        &values(["0", "X", "X", "X", "0", "0"]),
+        "1 refused\n0 6\nwalked 0\n",
+    ];
     [
         ("padded", padded::file(), padded.concat()),
+        ("stray", one_change.to_vec(), stray.concat()),
         (
             "wide",
             small_trace_09(-5, 5, &[4, 2], &[-5, 10]),
@@ -331,6 +341,7 @@ ASSERT(LXT_SHORTEST_FILE == 6 && LXT_LONGEST_FILE == 16777216);
 ASSERT(LXT_MOST_FACILITIES == 4096 && LXT_LONGEST_NAME == 1023 && LXT_WIDEST == 4096);
 ASSERT(sizeof(LXT_SYMBOLS) == 9 + 1);
 
+uint32_t (*const stray)(const uint8_t *, size_t, uint32_t *) = lxt_stray;
 /* Times are signed numbers of 64 bits, whether answered or asked for. */
 uint32_t (*const change)(const uint8_t *, size_t, uint32_t, uint32_t, uint8_t *, size_t, int64_t *, lxt_value *,
                          uint32_t *) = lxt_change;
@@ -380,6 +391,7 @@ static void all(const uint8_t *file, size_t length) {
     lxt_pair pair = {0, 0};
     uint8_t asked = 1;
     printf("%d", (int)lxt_judge(file, length, &summary, &timescale));
+    printf(" %d", (int)lxt_stray(file, length, &one));
     printf(" %d", (int)lxt_facts(file, length, 0, &facts, &msb, &lsb));
     printf(" %d", (int)lxt_root(file, length, 0, &one));
     printf(" %d", (int)lxt_name(file, length, 0, NULL, 0, &one));
@@ -428,10 +440,10 @@ fn a_null_pointer_with_length_0_is_an_empty_slice() {
     let ran = command.output().expect("a run");
     assert!(ran.status.success(), "{:?}", ran.status);
     let expected = [
-        "1 1 1 1 1 1 1 1 1 1 1 1 1",
-        "0 0 0 21 0 21 21 21 22 21 21 0 21",
-        "0 18 18 18 18 18 18 0 0 22 0 0 21",
-        "0 0 0 21 19 19 0 21 22 21 21 0 21",
+        "1 1 1 1 1 1 1 1 1 1 1 1 1 1",
+        "0 0 0 0 21 0 21 21 21 22 21 21 0 21",
+        "0 0 18 18 18 18 18 18 0 0 22 0 0 21",
+        "0 0 0 0 21 19 19 0 21 22 21 21 0 21",
     ];
     let printed = String::from_utf8_lossy(&ran.stdout);
     assert_eq!(Vec::from_iter(printed.lines()), expected);

@@ -1,5 +1,5 @@
 //! Which refusals the compared calls give: every one that a call can give, and no other; that padding is
-//! both clean and dirty, and that zero deltas and 64-bit times show.
+//! both clean and dirty, that there are stray bytes and none, and that zero deltas and 64-bit times show.
 
 use std::collections::BTreeSet;
 
@@ -38,8 +38,9 @@ fn each_call_gives_every_refusal_that_it_can_and_no_other() {
             "{call} {counts:?}"
         );
     }
-    let times = compared.zero_deltas().into_iter();
-    for (what, count) in times.chain(compared.long_times()) {
+    let met = compared.stray().into_iter();
+    let met = met.chain(compared.zero_deltas());
+    for (what, count) in met.chain(compared.long_times()) {
         println!("{count:>13} {what}");
         assert!(count >= 200, "{what}: {count}");
     }

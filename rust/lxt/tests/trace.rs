@@ -65,6 +65,7 @@ fn every_question_of_a_trace() {
         assert_eq!(trace.facilities(), 0..judged.summary().facilities);
         assert_eq!(summary.end, judged.summary().end);
         assert_eq!(summary.clean, judged.summary().clean, "{what}");
+        assert_eq!(trace.stray_bytes(), Ok(judged.stray_bytes()), "{what}");
         let mut bits = [0; lxt::WIDEST];
         for facility in trace.facilities().take(12) {
             let facts = judged.facts(facility).expect("facts");

@@ -1,5 +1,5 @@
 //! A plain reader of LXT traces, written from the rules of paper 01 and Asks 1, 2 and 6 of paper 02
-//! alone.
+//! alone, and from the definition of stray bytes that stands in `stray`.
 //!
 //! It exists to be compared, call by call, with another reader. So it follows the paper's order of
 //! checks, uses memory freely and judges the whole file again in every call. A refusal is its
@@ -10,6 +10,7 @@
 mod chains;
 mod dump;
 mod questions;
+mod stray;
 mod tables;
 mod walk;
 
@@ -21,6 +22,7 @@ pub use dump::dump;
 pub use questions::{
     chains, change, change_before, facts, judge, name, root, spans, value_at, Judged,
 };
+pub use stray::stray_bytes;
 pub use walk::{carry_on, full_list, start_walk, Downwards, RecordFault, Tables};
 
 /// The limits of a file's length, in bytes.

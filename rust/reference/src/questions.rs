@@ -195,6 +195,11 @@ impl<'a> Judged<'a> {
     pub(crate) fn trace(&self) -> &Trace<'a> {
         &self.trace
     }
+
+    /// Start and end of each change on the chain of a root.
+    pub(crate) fn spans(&self) -> Vec<(u32, u32)> {
+        spans_of(&self.chains)
+    }
 }
 
 /// n, C, T, timescale, initial symbol, and whether all padding is clean.
@@ -239,7 +244,7 @@ pub fn chains(file: &[u8]) -> Result<Vec<Vec<u32>>, u8> {
 
 /// Start and end of each change, by rising offset.
 pub fn spans(file: &[u8]) -> Result<Vec<(u32, u32)>, u8> {
-    let mut spans = spans_of(&Judged::new(file)?.chains);
+    let mut spans = Judged::new(file)?.spans();
     spans.sort_unstable();
     Ok(spans)
 }

@@ -28,6 +28,7 @@ pub(crate) struct Trace<'a> {
     pub file: &'a [u8],
     /// T
     pub end: usize,
+    pub list: SectionList,
     /// C
     pub changes: usize,
     pub timescale: i8,
@@ -108,11 +109,12 @@ pub(crate) fn read_tables(file: &[u8]) -> Result<Trace<'_>, u8> {
         times,
         long_times: table.time_bytes == 8,
         real_order,
+        list,
     })
 }
 
 /// The 4-byte number at `at`.
-fn word(file: &[u8], at: usize) -> u32 {
+pub(crate) fn word(file: &[u8], at: usize) -> u32 {
     u32::from_be_bytes([file[at], file[at + 1], file[at + 2], file[at + 3]])
 }
 
@@ -139,7 +141,8 @@ fn check_frame(file: &[u8]) -> Result<(), u8> {
 }
 
 /// The section list as it counts: of a tag met twice, the value nearer END.
-struct SectionList {
+#[derive(Debug)]
+pub(crate) struct SectionList {
     /// T, the offset of the END tag.
     end: usize,
     /// By tag; 0 means absent.
@@ -147,7 +150,7 @@ struct SectionList {
 }
 
 impl SectionList {
-    fn value(&self, tag: u8) -> u32 {
+    pub fn value(&self, tag: u8) -> u32 {
         self.values[usize::from(tag)]
     }
 
@@ -240,7 +243,7 @@ fn check_counting_tags(list: &SectionList) -> Result<(), u8> {
 }
 
 /// Whether a body lies between offset 4 and T. Sums are plain numbers.
-fn lies_within(start: u32, length: u64, end: usize) -> bool {
+pub(crate) fn lies_within(start: u32, length: u64, end: usize) -> bool {
     start >= 4 && u64::from(start) + length <= end as u64
 }
 

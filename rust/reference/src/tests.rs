@@ -1,5 +1,6 @@
 //! The small trace of paper 01, P1 to P12, and the sentences of the readings, each in a small file.
 
+mod stray;
 mod wide_times;
 
 use crate::*;

@@ -36,6 +36,12 @@ array-read-t29 c = search needs
 array-read-t32 : tie.Need-array-read-t32
 array-read-t32 c = search needs
 
+array-read-t35 : tie.Need-array-read-t35
+array-read-t35 c = search needs
+
+array-read-t38 : tie.Need-array-read-t38
+array-read-t38 c = search needs
+
 returns : tie.Need-returns
 returns c = search placed-is
 
@@ -54,4 +60,6 @@ placed-spec =
     array-read-t26
     array-read-t29
     array-read-t32
+    array-read-t35
+    array-read-t38
     returns)

@@ -50,17 +50,18 @@ fn main() {
     for (call, [clean, dirty]) in padding {
         println!("{call:>13}  padding clean {clean}, dirty {dirty}");
     }
-    let times = compared.zero_deltas().into_iter();
-    let times = Vec::from_iter(times.chain(compared.long_times()));
-    for (what, count) in &times {
+    let met = compared.stray().into_iter();
+    let met = met.chain(compared.zero_deltas());
+    let met = Vec::from_iter(met.chain(compared.long_times()));
+    for (what, count) in &met {
         println!("{count:>13}  {what}");
     }
-    // So many files have all of it; else the run says nothing about padding or such times.
+    // So many files have all of it; else the run says nothing about padding, stray bytes or such times.
     let mut missing = Vec::new();
     if padding.iter().any(|(_, counts)| counts.contains(&0)) {
         missing.push("clean and dirty padding");
     }
-    let unmet = times.iter().filter(|(_, count)| *count == 0);
+    let unmet = met.iter().filter(|(_, count)| *count == 0);
     missing.extend(unmet.map(|(what, _)| *what));
     if compared.files >= 1_000 && !missing.is_empty() {
         eprintln!("did not occur: {}", missing.join(", "));

@@ -23,7 +23,10 @@ fn all_calls(file: &[u8]) -> u64 {
     let chains = judged.as_ref().map(Judged::chains).unwrap_or_default();
     let n = chains.len();
     assert_eq!(lxt::judge(&file).is_ok(), judged.is_ok());
-    let mut calls = 1;
+    let stray = lxt::stray_bytes(&file).map_err(|refusal| refusal.number());
+    let expected = judged.as_ref().map(Judged::stray_bytes);
+    assert_eq!(stray, expected.map_err(|number| *number));
+    let mut calls = 2;
     for facility in [0, n / 2, n.saturating_sub(1), n] {
         let facility = facility as u32;
         let facts = lxt::facts(&file, facility);

@@ -212,7 +212,12 @@ fn all_calls(file: &[u8], lent: &mut Lent, place: Place) -> u64 {
         (answer, it.timescale)
     });
     assert_eq!((number, (*answer, *scale)), after(expected, (SUMMARY, 99)));
-    calls += 1;
+
+    let one = &mut lent.one.lend(&[MARK], place)[0];
+    let number = super::stray(file, one);
+    let stray = judged.map(Judged::stray_bytes);
+    assert_eq!((number, *one), after(stray, MARK));
+    calls += 2;
 
     let last = n.saturating_sub(1) as u32;
     for facility in [0, random.below(n.max(1)) as u32, last, n as u32, u32::MAX] {

@@ -55,7 +55,7 @@ fn the_declarations_are_those_of_the_header() {
     let pair = joined(&Vec::from_iter(pair).join(" "));
 
     let functions: Vec<&str> = plain.split("uint32_t lxt_").skip(1).collect();
-    assert_eq!(functions.len(), 9);
+    assert_eq!(functions.len(), 10);
     for function in functions {
         let (name, rest) = function.split_once('(').expect("a function");
         let (arguments, _) = rest.split_once(");").expect("its arguments");
@@ -69,7 +69,7 @@ fn the_declarations_are_those_of_the_header() {
         let declared = format!("pub fn lxt_{name}({arguments}) -> u32;");
         assert!(ours.contains(&declared), "{declared}");
     }
-    assert_eq!(ours.matches("pub fn lxt_").count(), 9);
+    assert_eq!(ours.matches("pub fn lxt_").count(), 10);
 
     let structs: Vec<&str> = plain.split("typedef struct {").skip(1).collect();
     assert_eq!(structs.len(), 5);
@@ -96,12 +96,15 @@ fn the_declarations_are_those_of_the_header() {
 
 // ---- Length ----
 
-/// All nine answers about a file with this many bytes, pairs and numbers lent, and what these hold.
+/// All ten answers about a file with this many bytes, pairs and numbers lent, and what these hold.
 fn all_answers(file: &[u8], bits: &mut [u8], pairs: &mut [Pair], output: &mut [u32]) -> String {
     let mut answers = String::new();
     let (mut five, mut scale) = (MARKED, 99);
     let number = judge(file, &mut five, &mut scale);
     answers += &format!("{number} {five:?} {scale}, ");
+    let mut one = 77;
+    let number = super::stray(file, &mut one);
+    answers += &format!("{number} {one}, ");
     let asked = vec![1; pairs.len()];
     for facility in [0, 1, 200] {
         let (mut two, mut msb, mut lsb) = (FACTS, 7, 7);
@@ -185,6 +188,8 @@ fn an_empty_slice_may_be_lent() {
     assert!(lacking > 50 && walked > 5, "{lacking} {walked}");
     let (mut answer, mut timescale) = (MARKED, 99);
     assert_eq!(judge(&[], &mut answer, &mut timescale), 1);
+    let mut stray = 77;
+    assert_eq!((super::stray(&[], &mut stray), stray), (1, 77));
 }
 
 // ---- Aligned ----
@@ -351,6 +356,10 @@ fn structs_are_written_whole_and_nothing_around_them() {
     assert_eq!(five.unframed(), expected);
     assert_eq!(scale.unframed(), summary.timescale);
 
+    let mut one = framed(77);
+    assert_eq!(super::stray(file, &mut one.lent), 0);
+    assert_eq!(one.unframed(), judged.stray_bytes());
+
     let (mut two, mut msb, mut lsb) = (framed(FACTS), framed(77), framed(77));
     let number = super::facts(file, 0, &mut two.lent, &mut msb.lent, &mut lsb.lent);
     let facts = judged.facts(0).expect("facts");
@@ -460,6 +469,28 @@ fn a_summary_is_written_or_stays() {
     println!("{seen:?}");
     let refused = (1..=17).map(|number| (number, MARKED.clean));
     for answer in refused.chain([(0, 0), (0, 1)]) {
+        assert!(seen.contains_key(&answer), "{answer:?} {seen:?}");
+    }
+}
+
+/// Counting the stray bytes of generated files: the count, or the mark. Every refusal of a file leaves it.
+#[test]
+fn a_count_of_stray_bytes_is_written_or_stays() {
+    const MARK: u32 = 0xAAAA_AAAA;
+    let mut seen = BTreeMap::new();
+    for seed in 0..6_000 {
+        let file = lxt_generate::case(seed).bytes;
+        let mut stray = MARK;
+        let number = super::stray(&file, &mut stray);
+        assert_eq!(
+            (number, stray),
+            after(lxt_reference::stray_bytes(&file), MARK)
+        );
+        *seen.entry((number, stray.min(2))).or_insert(0) += 1;
+    }
+    println!("{seen:?}");
+    let refused = (1..=17).map(|number| (number, 2));
+    for answer in refused.chain([(0, 0), (0, 1), (0, 2)]) {
         assert!(seen.contains_key(&answer), "{answer:?} {seen:?}");
     }
 }

@@ -7,6 +7,7 @@ use lxt_compare::judge::TRACE;
 pub fn by_every_call(file: &[u8], no: Refusal, what: &str) {
     assert_eq!(lxt::judge(file), Err(no), "{what}");
     assert_eq!(Trace::open(file).err(), Some(no), "{what}");
+    assert_eq!(lxt::stray_bytes(file), Err(no), "{what}");
     assert_eq!(lxt::facts(file, 0), Err(no), "{what}");
     assert_eq!(lxt::root(file, 0), Err(no), "{what}");
     assert_eq!(lxt::change_before(file, 0, 6), Err(no), "{what}");

@@ -2,35 +2,13 @@ use Rattle.lxt_changes.proofs.KeepLaws.{fit-is}
 use borrow.Author.Needs.{needs}
 use Rattle.lxt_changes.proofs.keep.symbols_fit.Statement.{statement}
 use Rattle.lxt_changes.proofs.keep.symbols_fit.Tie as tie
-use Rattle.lxt_changes.proofs.delta.data_at.Reads as data-at-reads
-use Rattle.lxt_changes.proofs.symbols.packed_size.Reads as packed-size-reads
-use Rattle.lxt_changes.proofs.symbols.size_of.Reads as size-of-reads
+use Rattle.lxt_changes.proofs.keep.symbols_end.Reads as symbols-end-reads
 
-data-at-requires : tie.Need-data-at-requires
-data-at-requires c κs = search needs
-
-shared-slice-read-size-of : tie.Need-shared-slice-read-size-of
-shared-slice-read-size-of c = search needs
-
-size-of-requires : tie.Need-size-of-requires
-size-of-requires c κs = search needs
-
-packed-size-requires : tie.Need-packed-size-requires
-packed-size-requires c κs = search needs
-
-add-result : tie.Need-add-result
-add-result c = search needs
+symbols-end-requires : tie.Need-symbols-end-requires
+symbols-end-requires c κs = search needs
 
 returns : tie.Need-returns
-returns c = fit-is _ _ _ _ _ _ _ (c .before .before .before .data-at .ensures .0) (c .before .size-of .ensures .0) (c .packed-size .ensures .0)
+returns c = search fit-is
 
 pub symbols-fit-spec : {M : Type 1} → statement M
-symbols-fit-spec =
-    tie.close
-    (tie.spec
-    data-at-requires
-    shared-slice-read-size-of
-    size-of-requires
-    packed-size-requires
-    add-result
-    returns)
+symbols-fit-spec = tie.close (tie.spec symbols-end-requires returns)

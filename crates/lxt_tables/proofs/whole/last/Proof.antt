@@ -31,7 +31,7 @@ cast-byte-order c = search needs
 byte-order-requires : tie.Need-byte-order-requires
 byte-order-requires c κs =
     let real = c .before .before .before .before in
-    test-readable _ _ (real .before .before .before .pre) _ (real .has-real .ensures) (not-false _ (c .before .before .before .if1 .left)) _
+    test-readable _ _ (real .before .before .before .pre .0) _ (real .has-real .ensures) (not-false _ (c .before .before .before .if1 .left)) _
     (c .before .before .lies .ensures) (not-false _ (c .before .if2 .left))
 
 is-reordering-requires : tie.Need-is-reordering-requires

@@ -1,5 +1,5 @@
 use borrow.Author.Tests.{not-true, not-false}
-use Rattle.lxt_tables.proofs.WholeLaws.{ten, eleven, twelve, thirteen, none-refused}
+use Rattle.lxt_tables.proofs.WholeLaws.{eleven, twelve, thirteen, none-refused}
 use borrow.Author.Needs.{needs}
 use Rattle.lxt_tables.proofs.whole.middle.Statement.{statement}
 use Rattle.lxt_tables.proofs.whole.middle.Tie as tie
@@ -7,44 +7,36 @@ use Rattle.lxt_tables.proofs.whole.middle.Tie as tie
 cast-geometry : tie.Need-cast-geometry
 cast-geometry c = search needs
 
-name-table-allowed-requires : tie.Need-name-table-allowed-requires
-name-table-allowed-requires c κs = search needs
-
-returns : tie.Need-returns
-returns c = search (ten, not-true)
-
 geometries-allowed-requires : tie.Need-geometries-allowed-requires
 geometries-allowed-requires c κs = search needs
 
-returns-2 : tie.Need-returns-2
-returns-2 c = search (eleven, not-true, not-false)
+returns : tie.Need-returns
+returns c = search (eleven, not-true)
 
 aliases-allowed-requires : tie.Need-aliases-allowed-requires
 aliases-allowed-requires c κs = search needs
 
-returns-3 : tie.Need-returns-3
-returns-3 c = search (twelve, not-true, not-false)
+returns-2 : tie.Need-returns-2
+returns-2 c = search (twelve, not-true, not-false)
 
 times-allowed-requires : tie.Need-times-allowed-requires
 times-allowed-requires c κs = search needs
 
-returns-4 : tie.Need-returns-4
-returns-4 c = search (thirteen, not-true, not-false)
+returns-3 : tie.Need-returns-3
+returns-3 c = search (thirteen, not-true, not-false)
 
-returns-5 : tie.Need-returns-5
-returns-5 c = search (none-refused, not-false)
+returns-4 : tie.Need-returns-4
+returns-4 c = search (none-refused, not-false)
 
 pub middle-spec : {M : Type 1} → statement M
 middle-spec =
     tie.close
     (tie.spec
     cast-geometry
-    name-table-allowed-requires
-    returns
     geometries-allowed-requires
-    returns-2
+    returns
     aliases-allowed-requires
-    returns-3
+    returns-2
     times-allowed-requires
-    returns-4
-    returns-5)
+    returns-3
+    returns-4)

@@ -1,7 +1,7 @@
 //! Measures the proved functions beside the independent reader, and prints tables:
 //!
 //! ```text
-//! cargo run --release --offline -p lxt-compare --bin bench [ratios] [growth] [hostile] [stack]
+//! cargo run --release --offline -p lxt-compare --bin bench [ratios] [stray] [growth] [hostile] [stack]
 //! ```
 //!
 //! Without a word it makes all parts.
@@ -14,6 +14,7 @@ mod growth;
 mod hostile;
 mod ratios;
 mod stack;
+mod stray;
 mod timing;
 
 fn main() {
@@ -21,6 +22,7 @@ fn main() {
     let asked = |part: &str| words.is_empty() || words.iter().any(|word| word == part);
     for (part, print) in [
         ("ratios", ratios::print as fn()),
+        ("stray", stray::print),
         ("growth", growth::print),
         ("hostile", hostile::print),
         ("stack", stack::print),

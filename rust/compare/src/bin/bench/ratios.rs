@@ -44,19 +44,23 @@ impl Input {
     }
 
     pub fn of_shape(name: &str, bytes: usize, facilities: usize, width: u32) -> Self {
-        let shape = Large {
-            bytes,
-            facilities,
-            width,
-            entries: bytes / 100,
-            times_tag: SHORT_TIMES,
-        };
-        Input::new(name, large(&shape))
+        Input::new(name, large(&shape(bytes, facilities, width)))
     }
 }
 
-const MB: usize = 1_000_000;
-const LONGEST: usize = 16_777_216;
+/// A shape with a time entry for every hundred bytes.
+pub fn shape(bytes: usize, facilities: usize, width: u32) -> Large {
+    Large {
+        bytes,
+        facilities,
+        width,
+        entries: bytes / 100,
+        times_tag: SHORT_TIMES,
+    }
+}
+
+pub const MB: usize = 1_000_000;
+pub const LONGEST: usize = 16_777_216;
 
 fn inputs() -> Vec<Input> {
     let mut inputs = Vec::new();

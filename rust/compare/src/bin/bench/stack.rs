@@ -90,7 +90,7 @@ pub fn print() {
     }
     // A thread's own use, of which a call's is counted from.
     let nothing = used_by(&mut || used(0));
-    let mut most = [0; 9];
+    let mut most = [0; lxt_compare::CALLS.len()];
     for file in &files {
         let summary = lxt_reference::judge(file);
         let n = summary.map_or(2, |it| it.facilities as usize);
@@ -106,6 +106,7 @@ pub fn print() {
         let mut output = vec![0; 2_000];
         let used = [
             used_by(&mut || used(lxt::judge(file))),
+            used_by(&mut || used(lxt::stray_bytes(file))),
             used_by(&mut || used(lxt::facts(file, facility))),
             used_by(&mut || used(lxt::root(file, facility))),
             used_by(&mut || used(lxt::name(file, facility, &mut names))),

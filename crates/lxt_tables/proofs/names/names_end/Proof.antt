@@ -1,16 +1,15 @@
 use borrow.Author.Needs.{needs}
 use Prim.Native.Nat.{_≤_}
 use mathlib.Core.Path.{_≡_}
-use mathlib.Core.List.{[]}
-use lib.Seq.{slice}
 use borrow.Author.Tests.{not-true, not-false}
-use Rattle.lxt_format.specs.Names.{namesIn, withinMemory}
-use Rattle.lxt_tables.proofs.NamesLaws.{namesLeft, short, broken, memory-left, within, next, all-read, first-within, first}
-use Rattle.lxt_tables.proofs.names.names_allowed.Statement.{statement}
-use Rattle.lxt_tables.proofs.names.names_allowed.Tie as tie
+use Rattle.lxt_tables.specs.Steps.{endOfNames}
+use Rattle.lxt_tables.proofs.NamesLaws.{endLeft, short, broken, memory-left, within, next, all-read, first-within, first}
+use Rattle.lxt_tables.proofs.names.names_end.Statement.{statement}
+use Rattle.lxt_tables.proofs.names.names_end.Tie as tie
 
 abbrev Inv-loop : tie.InvT-loop
-Inv-loop file at end n memory next₀ left₀ next left = (next .at ≤ end) × (namesLeft left (slice (next .at) end file) (next .before) (next .memory) ≡ withinMemory memory (namesIn n (slice at end file) []))
+Inv-loop file at end n memory next₀ left₀ next left =
+    (next .at ≤ end) × (endLeft file end left (next .at) (next .before) (next .memory) ≡ endOfNames file at end n memory)
 
 abbrev μ-loop : tie.MeasureT-loop
 μ-loop file at end n memory next₀ left₀ next left = left
@@ -25,7 +24,7 @@ sub-if1 : tie.Need-sub-if1 Inv-loop μ-loop
 sub-if1 c = search needs
 
 returns : tie.Need-returns Inv-loop μ-loop
-returns c = search short
+returns c = (search short, search needs)
 
 be16-requires : tie.Need-be16-requires Inv-loop μ-loop
 be16-requires c κs = search needs
@@ -52,7 +51,7 @@ add-allowed : tie.Need-add-allowed Inv-loop μ-loop
 add-allowed c = search needs
 
 returns-2 : tie.Need-returns-2 Inv-loop μ-loop
-returns-2 c = search (broken, not-true)
+returns-2 c = (search (broken, not-true), search needs)
 
 add-t16 : tie.Need-add-t16 Inv-loop μ-loop
 add-t16 c = search needs
@@ -73,10 +72,10 @@ loop-again : tie.Need-loop-again Inv-loop μ-loop
 loop-again c = (search (within, not-false), search (next, not-false))
 
 returns-3 : tie.Need-returns-3 Inv-loop μ-loop
-returns-3 c = search all-read
+returns-3 c = (search all-read, search needs)
 
-pub names-allowed-spec : {M : Type 1} → statement M
-names-allowed-spec =
+pub names-end-spec : {M : Type 1} → statement M
+names-end-spec =
     tie.close
     (tie.spec
     Inv-loop
