@@ -14,10 +14,10 @@ use Rattle.lxt_format.specs.Stray.{strayBytes}
 use Rattle.lxt_format.specs.Walk.{sort}
 use Rattle.lxt_format.specs.declared.Pair.{Pair}
 use Rattle.lxt_chains.specs.Pending.{pairOf, pendingChanges, rootOffsets}
-use Rattle.lxt_chains.specs.Reading.{chainsVerdict}
+use Rattle.lxt_chains.specs.Reading.{Ready, chainsVerdict}
 use Rattle.lxt_chains.specs.Groups.{bitsWidth, kindNumber}
 use Rattle.lxt_chains.specs.Windows.{window, Holds, Upto}
-use Rattle.lxt_chains.specs.Free.{freeAround}
+use Rattle.lxt_chains.specs.Free.{freeAround, Ordered}
 use Rattle.lxt_chains.specs.declared.chains.Chains.{Chains}
 use Rattle.lxt_changes.specs.declared.keep.Kept.{Kept}
 use Rattle.lxt_chains.specs.declared.sweep.Swept.{Swept}
@@ -69,6 +69,16 @@ pub record Sweeping (s : List ℕ) (c : Chains) (base i : ℕ) (widths kinds os 
   pub rooted : Rooted s c widths kinds os
   pub holds : Holds base (c .facilities) os slots
   pub upto : Upto os (base + i - 1)
+
+-- what a visit of slot i asks: an offset is pending there and none above it, and the free bytes counted so far leave room for those below the bound
+pub record Visiting (s : List ℕ) (c : Chains) (parts : List ℕ) (base i : ℕ) (widths kinds os slots : List ℕ) (above : Swept) : Type 0 where
+  pub ready : Ready s c
+  pub sweeping : Sweeping s c base (i + 1) widths kinds os slots
+  pub low : base ≤ c .end
+  pub inside : i < window
+  pub some : getD slots i 0 ≡ 0 → ⊥
+  pub room : above .free + above .bound ≤ c .end
+  pub ordered : Ordered parts
 
 -- the changes from the offsets os on fit below the bound and are clean exactly where those from os₀ on are below bound₀, so far as that is not known; and
 -- with the free bytes that were counted there are as many around them
