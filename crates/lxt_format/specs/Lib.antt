@@ -25,6 +25,7 @@ pub mod Walk
 pub mod WalkLaws
 pub mod Answers
 pub mod Columns
+pub mod Buffers
 pub mod ShortTimes
 pub mod ShortTimesLaws
 pub mod Questions

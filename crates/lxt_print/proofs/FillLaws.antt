@@ -17,7 +17,7 @@ use Rattle.lxt_print.specs.Left.{changesLeft, linesLeft, leftText, Going
 use Rattle.lxt_print.specs.Calls.{Fills}
 use Rattle.lxt_print.specs.declared.printing.Rest.{Rest}
 use Rattle.lxt_print.specs.declared.printing.Printing.{Printing}
-use Rattle.lxt_print.proofs.TextLaws.{length-placed, placed-none, placed-start}
+use Rattle.lxt_format.specs.Buffers.{length-placed, placed-none, placed-start}
 use Rattle.lxt_print.proofs.LineLaws.{put-more, put-is}
 use Rattle.lxt_print.proofs.NextLaws.{done-some}
 

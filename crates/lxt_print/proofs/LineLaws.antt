@@ -21,8 +21,9 @@ use Rattle.lxt_tables.specs.Stage.{Geometry}
 use Rattle.lxt_tables.specs.declared.Tables.{Tables}
 use Rattle.lxt_tables.proofs.TablesLaws.{Known, tables-known, entry-allowed}
 use Rattle.lxt_print.specs.Lines.{decimal, signedDecimal, space, newline, facilityWord, doneWord, refusedWord, aliasWord, kindWord, facilityLine, doneLine, refusedLine}
-use Rattle.lxt_print.specs.Placing.{placed, Opened, Put, facilityHead, facilityEnd}
-use Rattle.lxt_print.proofs.TextLaws.{length-placed, placed-more, placed-start}
+use Rattle.lxt_print.specs.Placing.{Opened, Put, facilityHead, facilityEnd}
+use Rattle.lxt_format.specs.Buffers.{placed}
+use Rattle.lxt_format.specs.Buffers.{length-placed, placed-more, placed-start}
 
 -- ---- texts one after the other
 

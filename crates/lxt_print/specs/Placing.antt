@@ -5,6 +5,7 @@ use mathlib.Core.List.{List, _++_}
 use lib.ListN.{length, take, drop}
 use lib.IntN.{ℤ}
 use Rattle.lxt_format.specs.Basics.{if_then_else_}
+use Rattle.lxt_format.specs.Buffers.{placed}
 use Rattle.lxt_format.specs.Geometry.{isAlias, rootOf, ownFacts}
 use Rattle.lxt_format.specs.Judge.{fileRefusal}
 use Rattle.lxt_tables.specs.Stage.{tablesOf}
@@ -13,10 +14,6 @@ use Rattle.lxt_format.specs.Names.{nameAmong, nameOf}
 use Rattle.lxt_values.specs.Names.{coming, Coming}
 use Rattle.lxt_values.specs.declared.names.NamesLeft.{NamesLeft}
 use Rattle.lxt_print.specs.Lines.{decimal, signedDecimal, space, facilityWord, changeWord, aliasWord, kindWord}
-
--- a buffer that holds a text from `at` on
-abbrev pub placed : List ℕ → ℕ → List ℕ → List ℕ
-placed buffer at text = take at buffer ++ (text ++ drop (at + length text) buffer)
 
 -- a text that was put from `at` up to p: the buffer before, the text, and the buffer after
 pub record Put (before : List ℕ) (at : ℕ) (text : List ℕ) (p : ℕ) (after : List ℕ) : Type 0 where

@@ -1,0 +1,4 @@
+pub mod PutLaws
+pub mod PackLaws
+pub mod SymbolLaws
+pub mod SizeLaws
