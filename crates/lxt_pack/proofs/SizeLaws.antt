@@ -1,0 +1,321 @@
+-- Laws of how many bytes a change takes.
+use Prim.Native.Nat.{ℕ, zero, suc, _+_, _*_, _-_, _/_, _^_, _≤_, _<_}
+use native.Mathlib.Omega.{arith}
+use native.Mathlib.Nat.{mul-le-mul}
+use mathlib.Core.Path.{_≡_, refl, sym, ap, _∙_}
+use mathlib.Core.Bool.{Bool, true, false, not, _&&_, _||_, true≢false, false≢true}
+use mathlib.Core.List.{List, [], _∷_, _++_}
+use lib.ListN.{length, getD, length-append}
+use lib.Seq.{slice, length-slice}
+use lib.Dec.{leb, ltb, eqb, lit<}
+use native.Mathlib.Decide.{ℕ-discrete}
+use borrow.Author.Tests.{lt-ltb, le-ltb, eq-eqb, ne-eqb, eqb-true, ltb-true}
+use Rattle.lxt_format.specs.Basics.{if_then_else_, all, any}
+use Rattle.lxt_format.specs.Reals.{placeOf}
+use Rattle.lxt_format.specs.Values.{symbolOf}
+use Rattle.lxt_format.specs.BasicsLaws.{on-test, both-and, and-both}
+use Rattle.lxt_format.specs.Changes.{symbolSize, packedSize}
+use Rattle.lxt_format.specs.Geometry.{widthBetween, factsBy}
+use Rattle.lxt_format.specs.declared.Kind.{Kind}
+use Rattle.lxt_format.specs.declared.Kind.the-variants.{Bits, Integer, Real, Text}
+use Rattle.lxt_written.specs.WrittenChanges.{codeOf, canHold, commandFor, packedSymbols, dataFor, fewestBytes}
+use Rattle.lxt_written.specs.Writing.{noZero, isSymbol, isBit, valueAllowed}
+use Rattle.lxt_written.specs.CommandLaws.{length-packed, value-symbols, integer-codes, command-one, command-0, bit-symbol, bit-code, command-bound, command-holds, held-one, held-codes, no-data}
+use Rattle.lxt_pack.specs.Symbols.{Chosen}
+use Rattle.lxt_pack.specs.Change.{Part, WidthFor, notAllowed, sizeFor, Sizes}
+
+-- ---- deltas
+
+abbrev Few : ℕ → ℕ → Type 0
+Few delta k = (k ≡ fewestBytes delta) × (1 ≤ k) × (k ≤ 4)
+
+module _ (delta : ℕ) where
+  pub few-1 : delta < 256 → Few delta 1
+  unfolding fewestBytes
+  few-1 h = (rw (lt-ltb delta 256 h), omega arith, omega arith)
+
+  module _ (a : 256 ≤ delta) where
+    pub few-2 : delta < 65536 → Few delta 2
+    unfolding fewestBytes
+    few-2 h = (rw (le-ltb delta 256 a, lt-ltb delta 65536 h), omega arith, omega arith)
+
+    module _ (b : 65536 ≤ delta) where
+      pub few-3 : delta < 16777216 → Few delta 3
+      unfolding fewestBytes
+      few-3 h = (rw (le-ltb delta 256 a, le-ltb delta 65536 b, lt-ltb delta 16777216 h), omega arith, omega arith)
+
+      pub few-4 : 16777216 ≤ delta → Few delta 4
+      unfolding fewestBytes
+      few-4 h = (rw (le-ltb delta 256 a, le-ltb delta 65536 b, le-ltb delta 16777216 h), omega arith, omega arith)
+
+-- of 1 to 4 bytes, 4 are left
+pub four-left : (k : ℕ) → 1 ≤ k → k ≤ 4 → (k ≡ 1 → ⊥) → (k ≡ 2 → ⊥) → (k ≡ 3 → ⊥) → k ≡ 4
+four-left zero a b d e f = absurd (omega arith)
+four-left (suc zero) a b d e f = absurd (d refl)
+four-left (suc (suc zero)) a b d e f = absurd (e refl)
+four-left (suc (suc (suc zero))) a b d e f = absurd (f refl)
+four-left (suc (suc (suc (suc k)))) a b d e f = omega arith
+
+-- ---- symbols
+
+abbrev Bitsize : ℕ → ℕ → Type 0
+Bitsize c b = (b ≡ symbolSize c) × (b ≤ 4)
+
+module _ (c : ℕ) where
+  pub bits-0 : c ≡ 0 → Bitsize c 1
+  unfolding symbolSize
+  bits-0 e = (rw e, omega arith)
+
+  pub bits-1 : c ≡ 1 → Bitsize c 2
+  unfolding symbolSize
+  bits-1 e = (rw e, omega arith)
+
+  pub bits-2 : c ≡ 2 → Bitsize c 4
+  unfolding symbolSize
+  bits-2 e = (rw e, omega arith)
+
+  pub bits-3 : (c ≡ 0 → ⊥) → (c ≡ 1 → ⊥) → (c ≡ 2 → ⊥) → Bitsize c 0
+  unfolding symbolSize
+  bits-3 a b d = (rw (ne-eqb c 0 a, ne-eqb c 1 b, ne-eqb c 2 d), omega arith)
+
+-- the bits of few symbols
+pub few-bits : (b width : ℕ) → b ≤ 4 → width ≤ 4096 → b * width ≤ 16384
+few-bits b width h k = mul-le-mul h k
+
+pub packed-is : (b width : ℕ) → b ≤ 4 → width ≤ 4096 → ((b * width + 7) / 8 ≡ packedSize b width) × ((b * width + 7) / 8 ≤ 2048)
+unfolding packedSize
+packed-is b width h k = let m = few-bits b width h k in (refl, omega arith)
+
+pub packed-by : (b c width r : ℕ) → b ≡ symbolSize c → r ≡ packedSize b width → r ≡ packedSize (symbolSize c) width
+packed-by b c width r e h = rw (← e) h
+
+-- ---- the command of an integer
+
+-- a byte whose code is 0 or 1 is a bit
+low-bit : (b : ℕ) → codeOf b < 2 → isBit b ≡ true
+unfolding codeOf placeOf isBit any
+low-bit b h =
+    elim (ℕ-discrete b 0x30) [
+      | yes e ↦ rw (eq-eqb b 0x30 e)
+      | no n ↦ elim (ℕ-discrete b 0x31) [
+        | yes e ↦ rw (ne-eqb b 0x30 n, eq-eqb b 0x31 e)
+        | no m ↦ absurd (high b n m h)
+      ]
+    ]
+  where
+    high : (b : ℕ) → (b ≡ 0x30 → ⊥) → (b ≡ 0x31 → ⊥) → codeOf b < 2 → ⊥
+    high b n m h = let h′ = rw (ne-eqb 0x30 b (λ e. n (sym e)), ne-eqb 0x31 b (λ e. m (sym e))) at h in omega arith
+
+all-bits : (l : List ℕ) → all (λ x. ltb (codeOf x) 2) l ≡ true → all isBit l ≡ true
+unfolding all
+all-bits [] h = refl
+all-bits (x ∷ l) h =
+    let b = and-both (ltb (codeOf x) 2) (all (λ x. ltb (codeOf x) 2) l) h in
+    both-and (isBit x) (all isBit l) (low-bit x (ltb-true (codeOf x) 2 (b .0))) (all-bits l (b .1))
+
+pub bits-symbols : (l : List ℕ) → all isBit l ≡ true → all isSymbol l ≡ true
+unfolding all
+bits-symbols [] h = refl
+bits-symbols (x ∷ l) h =
+    let b = and-both (isBit x) (all isBit l) h in both-and (isSymbol x) (all isSymbol l) (bit-symbol x (b .0)) (bits-symbols l (b .1))
+
+all-one : (b : ℕ) (l : List ℕ) → isBit b ≡ true → all (λ x. eqb x b) l ≡ true → all isBit l ≡ true
+unfolding all
+all-one b [] i h = refl
+all-one b (x ∷ l) i h =
+    let both = and-both (eqb x b) (all (λ x. eqb x b) l) h in
+    both-and (isBit x) (all isBit l) (rw (eqb-true x b (both .0)) i) (all-one b l i (both .1))
+
+module _ (value : List ℕ) (some : 1 ≤ length value) where
+  as-bits : (symbols : all isSymbol value ≡ true) → valueAllowed Bits (length value) value ≡ true
+  unfolding valueAllowed
+  as-bits h = both-and (eqb (length value) (length value)) (all isSymbol value) (eq-eqb (length value) (length value) refl) h
+
+  as-integer : all isBit value ≡ true → valueAllowed Integer (length value) value ≡ true
+  unfolding valueAllowed
+  as-integer h = both-and (eqb (length value) (length value)) (all isBit value) (eq-eqb (length value) (length value) refl) h
+
+  -- it is that of bits
+  pub integer-command : all isBit value ≡ true → commandFor Integer value ≡ commandFor Bits value
+  integer-command h =
+      let i = as-integer h in
+      let b = as-bits (bits-symbols value h) in
+      let codes = integer-codes (length value) value i in
+      on-test (all (λ x. eqb x (getD value 0 0)) value)
+      (λ e. command-one Integer (length value) value refl i (getD value 0 0) some e ∙ sym (command-one Bits (length value) value refl b (getD value 0 0) some e))
+      (λ e. command-0 Integer (length value) value refl i e codes ∙ sym (command-0 Bits (length value) value refl b e codes))
+
+  -- bits have the commands 0, 3 and 4
+  pub bits-command : all isBit value ≡ true → (commandFor Bits value ≡ 0 → ⊥) → (commandFor Bits value ≡ 3 → ⊥) → (commandFor Bits value ≡ 4 → ⊥) → ⊥
+  bits-command h a c d =
+      let b = as-bits (bits-symbols value h) in
+      let codes = integer-codes (length value) value (as-integer h) in
+      on-test (all (λ x. eqb x (getD value 0 0)) value)
+      (λ e.
+      let one = command-one Bits (length value) value refl b (getD value 0 0) some e in
+      let low = bit-code (getD value 0 0) (first-of value some h) in
+      seven (codeOf (getD value 0 0)) low one c d)
+      (λ e. a (command-0 Bits (length value) value refl b e codes))
+    where
+      first-of : (l : List ℕ) → 1 ≤ length l → all isBit l ≡ true → isBit (getD l 0 0) ≡ true
+      first-of [] n h = absurd (omega arith)
+      first-of (x ∷ l) n h = and-both (isBit x) (all isBit l) (unfold all in h) .0
+
+      seven : (k : ℕ) → k < 2 → commandFor Bits value ≡ 3 + k → (commandFor Bits value ≡ 3 → ⊥) → (commandFor Bits value ≡ 4 → ⊥) → ⊥
+      seven zero l e c d = c e
+      seven (suc zero) l e c d = d e
+      seven (suc (suc k)) l e c d = omega arith
+
+  -- and only they
+  pub command-bits : all isSymbol value ≡ true → (c : ℕ) → c ≡ commandFor Bits value → c ≡ 0 → all isBit value ≡ true
+  unfolding symbolSize
+  command-bits h c e z =
+      let holds : canHold Bits value 0 ≡ true = rw (← z, e) (command-holds Bits (length value) value refl (as-bits h)) in
+      all-bits value (held-codes Bits value 0 (lit< tt) holds)
+
+  pub command-one-bits : all isSymbol value ≡ true → (c k : ℕ) → c ≡ commandFor Bits value → c ≡ 3 + k → k < 2 → all isBit value ≡ true
+  unfolding isBit any symbolOf
+  command-one-bits h c k e z l =
+      let holds : canHold Bits value (3 + k) ≡ true = rw (← z, e) (command-holds Bits (length value) value refl (as-bits h)) in
+      let one = held-one Bits value (3 + k) (omega arith) holds in
+      low-symbol k l one
+    where
+      low-symbol : (k : ℕ) → k < 2 → all (λ x. eqb x (symbolOf (3 + k - 3))) value ≡ true → all isBit value ≡ true
+      low-symbol zero l h = all-one (symbolOf 0) value refl h
+      low-symbol (suc zero) l h = all-one (symbolOf 1) value refl h
+      low-symbol (suc (suc k)) l h = absurd (omega arith)
+
+-- ---- values
+
+-- a value that is allowed has the bytes of its data, one that is not has none
+size-given : (kind : Kind) (width : ℕ) (value : List ℕ) → valueAllowed kind width value ≡ true → sizeFor kind width value ≡ length (dataFor kind value)
+unfolding sizeFor
+size-given kind width value e = rw e
+
+size-refused : (kind : Kind) (width : ℕ) (value : List ℕ) → valueAllowed kind width value ≡ false → sizeFor kind width value ≡ notAllowed
+unfolding sizeFor
+size-refused kind width value e = rw e
+
+module _ (v : List ℕ) (start end : ℕ) (p : Part v start end) where
+  part-long : length (slice start end v) ≡ end - start
+  part-long = length-slice start end v (p .within)
+
+  -- ---- bits
+
+  pub bits-long : (width : ℕ) → (end - start ≡ width → ⊥) → notAllowed ≡ sizeFor Bits width (slice start end v)
+  unfolding valueAllowed
+  bits-long width n =
+      sym (size-refused Bits width (slice start end v) (rw (part-long, ne-eqb (end - start) width n)))
+
+  module _ (width c : ℕ) (e : end - start ≡ width) (h : Chosen (slice start end v) c) where
+    -- where a byte is no symbol
+    pub bits-none : c ≡ 16 → notAllowed ≡ sizeFor Bits width (slice start end v)
+    unfolding valueAllowed
+    bits-none n =
+        let value : List ℕ = slice start end v in
+        let no : all isSymbol value ≡ false =
+        on-test (all isSymbol value)
+        (λ y. let q : c ≡ commandFor Bits value = h .command ∙ rw y in let b = command-bound Bits value in absurd (omega arith))
+        (λ y. y) in
+        sym (size-refused Bits width value (rw (part-long, eq-eqb (end - start) width e, no)))
+
+    pub bits-given : (c ≡ 16 → ⊥) → (r : ℕ) → r ≡ packedSize (symbolSize c) (end - start) → r ≡ sizeFor Bits width (slice start end v)
+    unfolding valueAllowed dataFor
+    bits-given n r er =
+        let value : List ℕ = slice start end v in
+        let yes : all isSymbol value ≡ true = on-test (all isSymbol value) (λ y. y) (λ y. absurd (n (h .command ∙ rw y))) in
+        let q : c ≡ commandFor Bits value = h .command ∙ rw yes in
+        let allowed : valueAllowed Bits width value ≡ true = rw (part-long, eq-eqb (end - start) width e, yes) in
+        er ∙ sym (size-given Bits width value allowed ∙ length-packed (commandFor Bits value) value ∙ rw (part-long, ← q))
+
+  -- ---- integers
+
+  pub integer-long : (end - start ≡ 32 → ⊥) → notAllowed ≡ sizeFor Integer 32 (slice start end v)
+  unfolding valueAllowed
+  integer-long n = sym (size-refused Integer 32 (slice start end v) (rw (part-long, ne-eqb (end - start) 32 n)))
+
+  module _ (c : ℕ) (e : end - start ≡ 32) (h : Chosen (slice start end v) c) where
+    some : 1 ≤ length (slice start end v)
+    some = let l = part-long in omega arith
+
+    chosen-symbols : (c ≡ 16 → ⊥) → (all isSymbol (slice start end v) ≡ true) × (c ≡ commandFor Bits (slice start end v))
+    chosen-symbols n =
+        let value : List ℕ = slice start end v in
+        let yes : all isSymbol value ≡ true = on-test (all isSymbol value) (λ y. y) (λ y. absurd (n (h .command ∙ rw y))) in
+        (yes, h .command ∙ rw yes)
+
+    -- bits under their command
+    integer-size : all isBit (slice start end v) ≡ true → c ≡ commandFor Bits (slice start end v) → sizeFor Integer 32 (slice start end v) ≡ packedSize (symbolSize c) 32
+    unfolding valueAllowed dataFor
+    integer-size bits q =
+        let value : List ℕ = slice start end v in
+        let allowed : valueAllowed Integer 32 value ≡ true = rw (part-long, eq-eqb (end - start) 32 e, bits) in
+        size-given Integer 32 value allowed
+        ∙ length-packed (commandFor Integer value) value
+        ∙ rw (integer-command value some bits, ← q, part-long, e)
+
+    pub integer-0 : c ≡ 0 → 4 ≡ sizeFor Integer 32 (slice start end v)
+    unfolding symbolSize packedSize
+    integer-0 z =
+        let value : List ℕ = slice start end v in
+        let y = chosen-symbols (λ n. omega arith) in
+        let s = integer-size (command-bits value some (y .0) c (y .1) z) (y .1) in
+        sym (s ∙ rw z)
+
+    pub integer-one : (k : ℕ) → c ≡ 3 + k → k < 2 → 0 ≡ sizeFor Integer 32 (slice start end v)
+    unfolding packedSize
+    integer-one k z l =
+        let value : List ℕ = slice start end v in
+        let y = chosen-symbols (λ n. omega arith) in
+        let s = integer-size (command-one-bits value some (y .0) c k (y .1) z l) (y .1) in
+        sym (s ∙ rw (no-data c (omega arith)))
+
+    pub integer-none : (c ≡ 0 → ⊥) → (c ≡ 3 → ⊥) → (c ≡ 4 → ⊥) → notAllowed ≡ sizeFor Integer 32 (slice start end v)
+    unfolding valueAllowed
+    integer-none a b d =
+        let value : List ℕ = slice start end v in
+        let no : all isBit value ≡ false =
+        on-test (all isBit value)
+        (λ y.
+        let q : c ≡ commandFor Bits value = h .command ∙ rw (bits-symbols value y) in
+        absurd (bits-command value some y (λ z. a (q ∙ z)) (λ z. b (q ∙ z)) (λ z. d (q ∙ z))))
+        (λ y. y) in
+        sym (size-refused Integer 32 value (rw (part-long, eq-eqb (end - start) 32 e, no)))
+
+  -- ---- reals
+
+  pub real-given : end - start ≡ 8 → 8 ≡ sizeFor Real 0 (slice start end v)
+  unfolding valueAllowed dataFor
+  real-given e = sym (size-given Real 0 (slice start end v) (rw (part-long, eq-eqb (end - start) 8 e)) ∙ part-long ∙ e)
+
+  pub real-none : (end - start ≡ 8 → ⊥) → notAllowed ≡ sizeFor Real 0 (slice start end v)
+  unfolding valueAllowed
+  real-none n = sym (size-refused Real 0 (slice start end v) (rw (part-long, ne-eqb (end - start) 8 n)))
+
+  -- ---- texts
+
+  pub text-given : noZero (slice start end v) ≡ true → end - start + 1 ≡ sizeFor Text 0 (slice start end v)
+  unfolding valueAllowed dataFor
+  text-given e =
+      sym (size-given Text 0 (slice start end v) e ∙ length-append (slice start end v) (0 ∷ []) ∙ ap (λ k. k + 1) part-long)
+
+  pub text-none : noZero (slice start end v) ≡ false → notAllowed ≡ sizeFor Text 0 (slice start end v)
+  unfolding valueAllowed
+  text-none e = sym (size-refused Text 0 (slice start end v) e)
+
+-- ---- by the kind
+
+pub width-bits : (kind : Kind) (width : ℕ) → kind ≡ Bits → WidthFor kind width → (1 ≤ width) × (width ≤ 4096)
+width-bits kind width e h = rw e at h
+
+pub width-integer : (kind : Kind) (width : ℕ) → kind ≡ Integer → WidthFor kind width → width ≡ 32
+width-integer kind width e h = rw e at h
+
+pub width-real : (kind : Kind) (width : ℕ) → kind ≡ Real → WidthFor kind width → width ≡ 0
+width-real kind width e h = rw e at h
+
+pub width-text : (kind : Kind) (width : ℕ) → kind ≡ Text → WidthFor kind width → width ≡ 0
+width-text kind width e h = rw e at h
+
+pub sizes-of : (kind k : Kind) (width w : ℕ) (value : List ℕ) (r : ℕ) → kind ≡ k → width ≡ w → Sizes k w value r → Sizes kind width value r
+sizes-of kind k width w value r e h s = rw (e, h) s

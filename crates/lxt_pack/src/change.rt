@@ -1,0 +1,245 @@
+// One change: how many bytes it takes, and its bytes.
+ghost use mathlib.Core.Path.{_≡_};
+ghost use Prim.Native.Nat.{_+_, _*_, _-_, _≤_, _<_};
+ghost use lib.ListN.{length};
+ghost use lib.Seq.{slice};
+ghost use Rattle.lxt_format.specs.Buffers.{placed};
+ghost use Rattle.lxt_format.specs.Changes.{symbolSize, packedSize};
+ghost use Rattle.lxt_format.specs.declared.Kind.the-variants.{Bits, Integer, Real, Text};
+ghost use Rattle.lxt_written.specs.WrittenChanges.{bigEndian, fewestBytes, packedSymbols};
+ghost use Rattle.lxt_pack.specs.Change.{Part, WidthFor, notAllowed, sizeFor, Sizes, headOf, Held, Sound, Puts};
+use crate::parts;
+use crate::put;
+use crate::symbols;
+use lxt_format::Kind;
+
+// ---- how many bytes
+
+// The bytes that a delta takes.
+fn delta_size(delta: u32) -> usize
+    ensures { λ r. ⌜ (r ≡ fewestBytes delta) × (1 ≤ r) × (r ≤ 4) ⌝ }
+{
+    if delta < 0x100 {
+        return 1;
+    }
+    if delta < 0x1_0000 {
+        return 2;
+    }
+    if delta < 0x100_0000 {
+        return 3;
+    }
+    4
+}
+
+// The bits of a symbol under a command.
+fn symbol_size(command: u8) -> usize
+    ensures { λ r. ⌜ (r ≡ symbolSize command) × (r ≤ 4) ⌝ }
+{
+    if command == 0 {
+        return 1;
+    }
+    if command == 1 {
+        return 2;
+    }
+    if command == 2 {
+        return 4;
+    }
+    0
+}
+
+// The bytes of `width` symbols of b bits.
+fn packed_size(b: usize, width: usize) -> usize
+    requires { ⌜ (b ≤ 4) × (width ≤ 4096) ⌝ }
+    ensures { λ r. ⌜ (r ≡ packedSize b width) × (r ≤ 2048) ⌝ }
+{
+    (b * width + 7) / 8
+}
+
+// The answer where a value is not allowed; no value has so many bytes.
+pub const NONE: usize = 0x2_0000_0000;
+
+// The bytes of the data of symbols, of which there are to be `width`.
+fn bits_size(width: u64, values: &[u8], start: usize, end: usize) -> usize
+    requires { ⌜ Part (now values) start end × (1 ≤ width) × (width ≤ 4096) ⌝ }
+    ensures { λ r. ⌜ Sizes Bits width (slice start end (now (values .entry))) r ⌝ }
+{
+    let size = end - start;
+    if size as u64 != width {
+        return NONE;
+    }
+    let c = symbols::command(values, start, end);
+    if c == symbols::NONE {
+        return NONE;
+    }
+    packed_size(symbol_size(c), size)
+}
+
+// The bytes of the data of an integer: 32 symbols under the commands 0, 3 and 4.
+fn integer_size(values: &[u8], start: usize, end: usize) -> usize
+    requires { ⌜ Part (now values) start end ⌝ }
+    ensures { λ r. ⌜ Sizes Integer 32 (slice start end (now (values .entry))) r ⌝ }
+{
+    if end - start != 32 {
+        return NONE;
+    }
+    let c = symbols::command(values, start, end);
+    if c == 0 {
+        return 4;
+    }
+    if c == 3 {
+        return 0;
+    }
+    if c == 4 {
+        return 0;
+    }
+    NONE
+}
+
+fn real_size(values: &[u8], start: usize, end: usize) -> usize
+    requires { ⌜ Part (now values) start end ⌝ }
+    ensures { λ r. ⌜ Sizes Real 0 (slice start end (now (values .entry))) r ⌝ }
+{
+    if end - start == 8 {
+        return 8;
+    }
+    NONE
+}
+
+fn text_size(values: &[u8], start: usize, end: usize) -> usize
+    requires { ⌜ Part (now values) start end ⌝ }
+    ensures { λ r. ⌜ Sizes Text 0 (slice start end (now (values .entry))) r ⌝ }
+{
+    if parts::no_zero(values, start, end) {
+        return end - start + 1;
+    }
+    NONE
+}
+
+// The bytes of a value's data, or NONE.
+fn data_size(kind: Kind, width: u64, values: &[u8], start: usize, end: usize) -> usize
+    requires { ⌜ Part (now values) start end × WidthFor kind width ⌝ }
+    ensures { λ r. ⌜ Sizes kind width (slice start end (now (values .entry))) r ⌝ }
+{
+    match kind {
+        Kind::Bits => bits_size(width, values, start, end),
+        Kind::Integer => integer_size(values, start, end),
+        Kind::Real => real_size(values, start, end),
+        Kind::Text => text_size(values, start, end),
+    }
+}
+
+// The bytes of a change whose value is the part from `start` up to `end`; more than any file has where that is
+// no value of the kind and width.
+pub fn size_of(kind: Kind, width: u64, values: &[u8], start: usize, end: usize, delta: u32) -> usize
+    requires { ⌜ Part (now values) start end × WidthFor kind width ⌝ }
+    ensures { λ r. ⌜ (r ≡ 1 + fewestBytes delta + sizeFor kind width (slice start end (now (values .entry)))) × (r ≤ 5 + notAllowed) ⌝ }
+{
+    1 + delta_size(delta) + data_size(kind, width, values, start, end)
+}
+
+// ---- its bytes
+
+// A delta in k bytes.
+fn put_delta(out: &mut [u8], at: usize, k: usize, delta: u32)
+    requires { ⌜ (1 ≤ k) × (k ≤ 4) × (at + k ≤ length (now out)) ⌝ }
+    ensures { λ _. ⌜ now (out .exit) ≡ placed (now (out .entry)) at (bigEndian k delta) ⌝ }
+{
+    if k == 1 {
+        put::one(out, at, delta);
+        return;
+    }
+    if k == 2 {
+        put::two(out, at, delta);
+        return;
+    }
+    if k == 3 {
+        put::three(out, at, delta);
+        return;
+    }
+    put::four(out, at, delta);
+}
+
+// The command byte and the delta, and where the data goes.
+fn put_head(command: u8, delta: u32, out: &mut [u8], at: usize) -> usize
+    requires { ⌜ (command < 16) × (at + (1 + fewestBytes delta) ≤ length (now out)) ⌝ }
+    ensures { λ _. ⌜ now (out .exit) ≡ placed (now (out .entry)) at (headOf command delta) ⌝ }
+    ensures { λ r. ⌜ r ≡ at + (1 + fewestBytes delta) ⌝ }
+{
+    let k = delta_size(delta);
+    put::one(out, at, (16 * (k - 1)) as u32 + command as u32);
+    put_delta(out, at + 1, k, delta);
+    at + (1 + k)
+}
+
+// Symbols under a command that holds them, and where they end.
+fn put_symbols(
+    values: &[u8],
+    start: usize,
+    end: usize,
+    command: u8,
+    out: &mut [u8],
+    at: usize,
+) -> usize
+    requires { ⌜ Held (now values) start end command (now out) at ⌝ }
+    ensures { λ _. ⌜ now (out .exit) ≡ placed (now (out .entry)) at (packedSymbols command (slice start end (now (values .entry)))) ⌝ }
+    ensures { λ r. ⌜ r ≡ at + packedSize (symbolSize command) (end - start) ⌝ }
+{
+    let b = symbol_size(command);
+    if b == 0 {
+        return at;
+    }
+    symbols::pack(values, start, end, b, out, at);
+    at + packed_size(b, end - start)
+}
+
+// A change of symbols, and where it ends.
+fn put_bits(values: &[u8], start: usize, end: usize, delta: u32, out: &mut [u8], at: usize) -> usize
+    requires { ⌜ Sound Bits (now values) start end delta (now out) at ⌝ }
+    ensures { λ r. ⌜ Puts Bits (slice start end (now (values .entry))) delta (now (out .entry)) at (now (out .exit)) r ⌝ }
+{
+    let command = symbols::command(values, start, end);
+    let data = put_head(command, delta, out, at);
+    put_symbols(values, start, end, command, out, data)
+}
+
+// A real, whose bytes are given lowest first.
+fn put_real(values: &[u8], start: usize, end: usize, delta: u32, out: &mut [u8], at: usize) -> usize
+    requires { ⌜ Sound Real (now values) start end delta (now out) at ⌝ }
+    ensures { λ r. ⌜ Puts Real (slice start end (now (values .entry))) delta (now (out .entry)) at (now (out .exit)) r ⌝ }
+{
+    let data = put_head(0, delta, out, at);
+    put::copy(out, data, values, start, end);
+    data + (end - start)
+}
+
+// A text, and the zero that ends it.
+fn put_text(values: &[u8], start: usize, end: usize, delta: u32, out: &mut [u8], at: usize) -> usize
+    requires { ⌜ Sound Text (now values) start end delta (now out) at ⌝ }
+    ensures { λ r. ⌜ Puts Text (slice start end (now (values .entry))) delta (now (out .entry)) at (now (out .exit)) r ⌝ }
+{
+    let data = put_head(0, delta, out, at);
+    put::copy(out, data, values, start, end);
+    put::one(out, data + (end - start), 0);
+    data + (end - start) + 1
+}
+
+// A change, and where it ends.
+pub fn put(
+    kind: Kind,
+    values: &[u8],
+    start: usize,
+    end: usize,
+    delta: u32,
+    out: &mut [u8],
+    at: usize,
+) -> usize
+    requires { ⌜ Sound kind (now values) start end delta (now out) at ⌝ }
+    ensures { λ r. ⌜ Puts kind (slice start end (now (values .entry))) delta (now (out .entry)) at (now (out .exit)) r ⌝ }
+{
+    match kind {
+        Kind::Bits => put_bits(values, start, end, delta, out, at),
+        Kind::Integer => put_bits(values, start, end, delta, out, at),
+        Kind::Real => put_real(values, start, end, delta, out, at),
+        Kind::Text => put_text(values, start, end, delta, out, at),
+    }
+}

@@ -1,4 +1,0 @@
-pub mod PutLaws
-pub mod PackLaws
-pub mod SymbolLaws
-pub mod SizeLaws

@@ -1,3 +1,0 @@
-pub mod Symbols
-pub mod Rows
-pub mod Changes

@@ -1,7 +1,0 @@
-// Writing a trace.
-pub mod changes;
-pub mod facilities;
-pub mod geometry;
-pub mod names;
-pub mod put;
-pub mod symbols;
