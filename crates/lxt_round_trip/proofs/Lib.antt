@@ -21,3 +21,5 @@ pub mod TimesReadLaws
 pub mod TimeTableLaws
 pub mod CoveredLaws
 pub mod TablesReadLaws
+pub mod ChainedLaws
+pub mod ChainedSortLaws
