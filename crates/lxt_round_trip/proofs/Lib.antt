@@ -23,3 +23,4 @@ pub mod CoveredLaws
 pub mod TablesReadLaws
 pub mod ChainedLaws
 pub mod ChainedSortLaws
+pub mod LaidReadLaws
