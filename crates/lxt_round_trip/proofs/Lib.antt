@@ -24,3 +24,4 @@ pub mod TablesReadLaws
 pub mod ChainedLaws
 pub mod ChainedSortLaws
 pub mod LaidReadLaws
+pub mod ChangesBackLaws
