@@ -25,3 +25,5 @@ pub mod ChainedLaws
 pub mod ChainedSortLaws
 pub mod LaidReadLaws
 pub mod ChangesBackLaws
+pub mod TypedLaws
+pub mod RoundTripped
