@@ -1,19 +1,21 @@
 -- What a trace that is written keeps, as plain facts.
-use Prim.Native.Nat.{_≤_, _<_}
+use Prim.Native.Nat.{ℕ, _≤_, _<_}
 use mathlib.Core.Path.{_≡_}
 use mathlib.Core.Bool.{true, _&&_}
+use mathlib.Core.List.{List}
 use lib.ListN.{length}
-use lib.Dec.{leb}
-use borrow.Author.Tests.{leb-true}
+use lib.Dec.{ltb, leb}
+use borrow.Author.Tests.{ltb-true, leb-true}
 use Rattle.lxt_format.specs.Limits.{mostFacilities, longestName, widestFacility}
 use Rattle.lxt_format.specs.Basics.{all}
 use Rattle.lxt_format.specs.BasicsLaws.{and-both}
 use Rattle.lxt_format.specs.Sections.{timescaleAllowed}
 use Rattle.lxt_chains.specs.Pending.{Each}
 use Rattle.lxt_chains.proofs.Lists.{each-map, each-both, each-all}
-use Rattle.lxt_written.specs.Input.{Facility, Trace}
-use Rattle.lxt_written.specs.Writing.{noZero, nameAllowed, factsFor, facilityAllowed, changesAllowed, traceAllowed}
-use Rattle.lxt_round_trip.specs.Steps.{FacilityTyped, Writable}
+use Rattle.lxt_written.specs.Input.{Facility, Change, Trace}
+use Rattle.lxt_written.specs.WrittenChanges.{numbered}
+use Rattle.lxt_written.specs.Writing.{noZero, nameAllowed, factsFor, facilityAllowed, valueAllowed, valueOfAllowed, changesAllowed, traceAllowed}
+use Rattle.lxt_round_trip.specs.Steps.{FacilityTyped, ChangeTyped, Writable}
 
 -- a facility that may be written
 pub record FacilityKept (f : Facility) : Type 0 where
@@ -64,3 +66,28 @@ kept-of t w =
       facilities = each-map facility-kept (each-both (w .facilities) (each-all facilityAllowed (t .facilities) (d .0)));
       changes = d .1;
     }
+
+-- a change that may be written: its value is one of its facility's kind and width
+pub record ChangeKept (facilities : List Facility) (c : Change) : Type 0 where
+  pub typed : ChangeTyped c
+  pub below : c .facility < length facilities
+  pub allowed : valueAllowed (numbered facilities (c .facility) .kind) (factsFor (numbered facilities (c .facility)) .width) (c .value) ≡ true
+
+-- a change that is typed and allowed keeps these
+change-kept : (facilities : List Facility) (c : Change) → ChangeTyped c → valueOfAllowed facilities (c .facility) (c .value) ≡ true → ChangeKept facilities c
+unfolding valueOfAllowed
+change-kept facilities c typed h =
+    let f : Facility = numbered facilities (c .facility) in
+    let b = and-both (ltb (c .facility) (length facilities)) (valueAllowed (f .kind) (factsFor f .width) (c .value)) h in
+    record { typed = typed; below = ltb-true _ _ (b .0); allowed = b .1 }
+
+-- so do all changes
+pub changes-kept : (facilities : List Facility) (time : ℕ) {cs : List Change} → Each ChangeTyped cs → changesAllowed facilities time cs ≡ true → Each (ChangeKept facilities) cs
+unfolding changesAllowed
+changes-kept facilities time Each.none h = Each.none
+changes-kept facilities time (Each.both {x = c} {l = cs} typed rest) h =
+    let value = valueOfAllowed facilities (c .facility) (c .value) in
+    let later = changesAllowed facilities (c .time) cs in
+    let a = and-both (leb time (c .time)) (value && later) h in
+    let b = and-both value later (a .1) in
+    Each.both (change-kept facilities c typed (b .0)) (changes-kept facilities (c .time) rest (b .1))

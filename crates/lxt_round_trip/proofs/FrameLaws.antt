@@ -12,7 +12,9 @@ use Rattle.lxt_format.specs.Basics.{range, all}
 use Rattle.lxt_format.specs.BasicsLaws.{length-range, both-and, or-true}
 use Rattle.lxt_format.specs.Bytes.{byteAt, u16At, u32At, signed}
 use Rattle.lxt_format.specs.BytesLaws.{u16-bytes}
-use Rattle.lxt_format.specs.Sections.{lengthAllowed, startsRight, endsRight, sectionOf, present, endOf, changesFrom, facilityCount, wideTimes, timesAt, timeCount, nothingCompressed, timesOnce, sectionsPresent, bodySize, bodyInside, bodiesInside, countAllowed, timescaleAllowed, timescaleOf, initialOf}
+use Rattle.lxt_format.specs.Sections.{lengthAllowed, startsRight, endsRight, sectionOf, present, endOf, changesFrom}
+use Rattle.lxt_format.specs.Sections.{facilityCount, wideTimes, timesAt, timeCount, nothingCompressed, timesOnce, sectionsPresent}
+use Rattle.lxt_format.specs.Sections.{bodySize, bodyInside, bodiesInside, countAllowed, timescaleAllowed, timescaleOf, initialOf}
 use Rattle.lxt_format.specs.Names.{memoryOf}
 use Rattle.lxt_written.specs.Input.{Facility, Trace}
 use Rattle.lxt_written.specs.WrittenChanges.{bigEndian, lastOf, pairOf, laid}

@@ -12,7 +12,8 @@ use Rattle.lxt_format.specs.Limits.{longestFile, widestFacility}
 use Rattle.lxt_format.specs.Basics.{range}
 use Rattle.lxt_format.specs.BasicsLaws.{range-all}
 use Rattle.lxt_format.specs.Sections.{sectionOf}
-use Rattle.lxt_format.specs.Geometry.{rowsOf, msbOf, lsbOf, flagsOf, isAlias, flagsAllowed, kindOfFlags, widthBetween, geometryAllowed, geometriesAllowed, factsBy, ownFacts, rootOf, aliasesAllowed, rootsOf, factsOf}
+use Rattle.lxt_format.specs.Geometry.{rowsOf, msbOf, lsbOf, flagsOf, isAlias, flagsAllowed, kindOfFlags, widthBetween}
+use Rattle.lxt_format.specs.Geometry.{geometryAllowed, geometriesAllowed, factsBy, ownFacts, rootOf, aliasesAllowed, rootsOf, factsOf}
 use Rattle.lxt_format.specs.GeometryLaws.{root-self}
 use Rattle.lxt_format.specs.Reals.{isReal, hasReal}
 use Rattle.lxt_format.specs.declared.Kind.{Kind}

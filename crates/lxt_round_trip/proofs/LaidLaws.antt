@@ -1,37 +1,19 @@
 -- The changes of a trace as they are laid in the file: one after the other from offset 4 on.
-use Prim.Native.Nat.{ℕ, _+_, _^_, _≤_}
+use Prim.Native.Nat.{ℕ, _+_, _≤_}
 use mathlib.Core.Path.{_≡_, refl}
 use mathlib.Core.List.{List, [], _∷_, _++_, map}
 use lib.ListN.{length, length-append}
-use lib.Dec.{ltb}
 use native.Mathlib.Omega.{arith}
 use Rattle.lxt_format.specs.Basics.{joined}
-use Rattle.lxt_format.specs.BasicsLaws.{on-test}
-use Rattle.lxt_format.specs.declared.Kind.{Kind}
 use Rattle.lxt_format.specs.declared.Pair.{Pair}
 use Rattle.lxt_chains.specs.Pending.{Each}
 use Rattle.lxt_chains.proofs.Lists.{each-map}
 use Rattle.lxt_written.specs.Input.{Facility, Change, Trace}
-use Rattle.lxt_written.specs.WrittenChanges.{bigEndian, dataFor, fewestBytes, changeBytes, numbered, deltaTo, Laid, pairOf, layAt, layFrom, laid, changesBytes}
-use Rattle.lxt_written.specs.Stands.{Stands, stands-front, stands-back, length-bigEndian}
+use Rattle.lxt_written.specs.WrittenChanges.{numbered, deltaTo, Laid, pairOf, layAt, layFrom, laid, changesBytes}
+use Rattle.lxt_written.specs.CommandLaws.{change-long}
 use Rattle.lxt_round_trip.specs.Steps.{changesEnd}
 
--- ---- one change
-
--- "each takes the fewest delta bytes", 1 to 4
-pub fewest-some : (delta : ℕ) → 1 ≤ fewestBytes delta
-unfolding fewestBytes
-fewest-some delta =
-    on-test (ltb delta (256 ^ 1)) (λ a. rw a (omega arith))
-    (λ a. on-test (ltb delta (256 ^ 2)) (λ b. rw (a, b) (omega arith)) (λ b. on-test (ltb delta (256 ^ 3)) (λ c. rw (a, b, c) (omega arith)) (λ c. rw (a, b, c) (omega arith))))
-
--- a change has its command, a delta byte at least, and its data
-pub change-long : (kind : Kind) (delta : ℕ) (value : List ℕ) → length (changeBytes kind delta value) ≡ 1 + fewestBytes delta + length (dataFor kind value)
-unfolding changeBytes
-change-long kind delta value =
-    omega (arith, length-append (bigEndian (fewestBytes delta) delta) (dataFor kind value), length-bigEndian (fewestBytes delta) delta)
-
--- ---- all changes
+-- ---- changes in order
 
 -- changes of at least 2 bytes each, one after the other from o up to e
 pub data InOrder (e : ℕ) : ℕ → List Laid → Type 0 where
@@ -41,12 +23,10 @@ pub data InOrder (e : ℕ) : ℕ → List Laid → Type 0 where
 -- a change that is laid has at least 2 bytes
 laid-long : (facilities : List Facility) (o : ℕ) (before : List Pair) (c : Change) → 2 ≤ length (layAt facilities o before c .bytes)
 unfolding layAt
-laid-long facilities o before c =
-    let delta : ℕ = deltaTo (c .facility) o before in
-    omega (arith, change-long (numbered facilities (c .facility) .kind) delta (c .value), fewest-some delta)
+laid-long facilities o before c = change-long (numbered facilities (c .facility) .kind) (deltaTo (c .facility) o before) (c .value)
 
 -- and its offset
-laid-at : (facilities : List Facility) (o : ℕ) (before : List Pair) (c : Change) → layAt facilities o before c .offset ≡ o
+pub laid-at : (facilities : List Facility) (o : ℕ) (before : List Pair) (c : Change) → layAt facilities o before c .offset ≡ o
 unfolding layAt
 laid-at facilities o before c = refl
 
@@ -79,18 +59,6 @@ order-within none = Each.none
 order-within (both {l = x} p l rest) =
     let below = order-below rest in
     Each.both {x = x} (omega arith, omega arith) (each-map (λ x h. (omega arith, h .1)) (order-within rest))
-
--- the bytes of each stand at its offset
-pub order-stands : (s : List ℕ) {e o : ℕ} {ls : List Laid} → InOrder e o ls → Stands s o (joined (λ l. l .bytes) ls) → Each (λ l. Stands s (l .offset) (l .bytes)) ls
-unfolding joined
-order-stands s none h = Each.none
-order-stands s (both {o = o} {l = x} {ls = ls} p l rest) h =
-    Each.both {x = x} (rw p (stands-front s o (x .bytes) (joined (λ l. l .bytes) ls) h)) (order-stands s rest (stands-back s o (x .bytes) (joined (λ l. l .bytes) ls) h))
-
--- of all changes of a trace
-pub laid-stands : (t : Trace) (s : List ℕ) → Stands s 4 (changesBytes t) → Each (λ l. Stands s (l .offset) (l .bytes)) (laid t)
-unfolding changesBytes
-laid-stands t s h = order-stands s (laid-order t) h
 
 -- each starts at 4 or above, and ends where the changes end or below
 pub laid-within : (t : Trace) → Each (λ l. (4 ≤ l .offset) × (l .offset + length (l .bytes) ≤ changesEnd t)) (laid t)

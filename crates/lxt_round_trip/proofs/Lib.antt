@@ -21,3 +21,9 @@ pub mod TimesReadLaws
 pub mod TimeTableLaws
 pub mod CoveredLaws
 pub mod TablesReadLaws
+pub mod ChainedLaws
+pub mod ChainedSortLaws
+pub mod LaidReadLaws
+pub mod ChangesBackLaws
+pub mod TypedLaws
+pub mod RoundTripped

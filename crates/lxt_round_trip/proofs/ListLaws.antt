@@ -1,12 +1,13 @@
 -- Laws of lists: what holds of each element holds at each place, and a list beside the range of its places.
 use Prim.Native.Nat.{ℕ, zero, suc, _+_, _≤_, _<_}
-use mathlib.Core.Path.{_≡_, refl}
+use mathlib.Core.Path.{_≡_, refl, sym, ap, _∙_}
 use mathlib.Core.Bool.{Bool, true, false}
 use mathlib.Core.List.{List, [], _∷_, map, reverse, reverse-cons}
 use lib.ListN.{length, getD}
 use native.Mathlib.Omega.{arith}
 use native.Mathlib.Nat.{add-zero}
 use Rattle.lxt_format.specs.Basics.{range, any, select}
+use Rattle.lxt_format.specs.BasicsLaws.{or-true, or-none}
 use Rattle.lxt_chains.specs.Pending.{Each}
 use Rattle.lxt_chains.proofs.Lists.{each-append}
 
@@ -73,3 +74,29 @@ pub getD-below : (bound : ℕ) {xs : List ℕ} → 0 < bound → Each (λ x. x <
 getD-below bound p Each.none i = p
 getD-below bound p (Each.both h rest) zero = h
 getD-below bound p (Each.both h rest) (suc i) = getD-below bound p rest i
+
+-- what a function gives at a place of a range
+pub map-at : (g : ℕ → ℕ) (i k j : ℕ) → j < k → getD (map g (range i k)) j 0 ≡ g (i + j)
+unfolding range
+map-at g i zero j h = absurd (omega arith)
+map-at g i (suc k) zero h = rw add-zero
+map-at g i (suc k) (suc j) h = map-at g (suc i) k j (omega arith) ∙ ap g (sym (further i j))
+
+-- a test that holds of none fails of each
+pub none-each : {A : Type 0} (p : A → Bool) (xs : List A) → any p xs ≡ false → Each (λ x. p x ≡ false) xs
+unfolding any
+none-each p [] h = Each.none
+none-each p (x ∷ xs) h = let b = or-none (p x) (any p xs) h in Each.both (b .0) (none-each p xs (b .1))
+
+-- a test that holds at a place holds of one
+pub any-at : {A : Type 0} (p : A → Bool) (d : A) (xs : List A) (i : ℕ) → i < length xs → p (getD xs i d) ≡ true → any p xs ≡ true
+unfolding any
+any-at p d [] i h e = absurd (omega arith)
+any-at p d (x ∷ xs) zero h e = rw e
+any-at p d (x ∷ xs) (suc i) h e = or-true (p x) (any-at p d xs i (omega arith) e)
+
+-- two functions that agree on a range give the same of it
+pub map-same : (g h : ℕ → ℕ) (i k : ℕ) → ((j : ℕ) → i ≤ j → j < i + k → g j ≡ h j) → map g (range i k) ≡ map h (range i k)
+unfolding range
+map-same g h i zero e = refl
+map-same g h i (suc k) e = rw (e i (omega arith) (omega arith), map-same g h (suc i) k (λ j a b. e j (omega arith) (omega arith)))

@@ -18,9 +18,10 @@ use Rattle.lxt_round_trip.proofs.ListLaws.{map-places}
 use Rattle.lxt_round_trip.proofs.AllowedLaws.{Kept, kept-of}
 use Rattle.lxt_round_trip.proofs.SectionLaws.{Shape, shape, list-ends}
 use Rattle.lxt_round_trip.proofs.BodyLaws.{Bodies, bodies}
-use Rattle.lxt_round_trip.proofs.FrameLaws.{length-allowed, starts-right, ends-right, nothing-compressed, times-once, sections-present, bodies-inside, count-read, count-allowed, timescale-read, initial-read}
+use Rattle.lxt_round_trip.proofs.FrameLaws.{length-allowed, starts-right, ends-right, nothing-compressed, times-once, sections-present}
+use Rattle.lxt_round_trip.proofs.FrameLaws.{bodies-inside, count-read, count-allowed, timescale-read, initial-read}
 use Rattle.lxt_round_trip.proofs.NameTableLaws.{names-allowed, name-read}
-use Rattle.lxt_round_trip.proofs.GeometryReadLaws.{geometries-allowed, aliases-allowed, own-root, roots-all, own-facts, facts-given}
+use Rattle.lxt_round_trip.proofs.GeometryReadLaws.{geometries-allowed, aliases-allowed, own-root, own-facts, facts-given}
 use Rattle.lxt_round_trip.proofs.RealTestLaws.{order-read, test-allowed}
 use Rattle.lxt_round_trip.proofs.SyncReadLaws.{sync-read}
 use Rattle.lxt_round_trip.proofs.TimeTableLaws.{times-told, times-allowed}
@@ -59,7 +60,6 @@ module _ (t : Trace) (s : List ℕ) (h : Shape t s) (b : Bodies t s) (short : le
         initial = initial-read t s b k;
         facilities = facilities-read;
         facts = own-facts t s b short k;
-        roots = roots-all t s b short k;
         root = own-root t s b short k;
         sync = sync-read t s b short;
         times = times-told t s b short k typed;

@@ -15,7 +15,8 @@ use Rattle.lxt_format.specs.BasicsLaws.{on-test, and-both, both-and}
 use Rattle.lxt_format.specs.Bytes.{numberAt, u32At}
 use Rattle.lxt_format.specs.Sections.{sectionOf, endOf}
 use Rattle.lxt_format.specs.Geometry.{syncOf}
-use Rattle.lxt_format.specs.Times.{timeOfBytes, firstTime, lastTime, positionsAt, positionDeltas, timeDeltaBytes, timeDeltas, positionsOf, timesOf, inRange, tableAllowed, timesAllowed, timeOf}
+use Rattle.lxt_format.specs.Times.{timeOfBytes, firstTime, lastTime, positionsAt, positionDeltas, timeDeltaBytes, timeDeltas}
+use Rattle.lxt_format.specs.Times.{positionsOf, timesOf, inRange, tableAllowed, timesAllowed, timeOf}
 use Rattle.lxt_chains.specs.Pending.{Each}
 use Rattle.lxt_chains.proofs.Lists.{each-map, each-both, each-drop, all-each}
 use Rattle.lxt_written.specs.Input.{Facility, Change, Trace}
@@ -32,7 +33,8 @@ use Rattle.lxt_round_trip.proofs.BodyLaws.{Bodies}
 use Rattle.lxt_round_trip.proofs.FrameLaws.{length-deltas, not-wide, times-start, time-count}
 use Rattle.lxt_round_trip.proofs.GeometryReadLaws.{roots-all}
 use Rattle.lxt_round_trip.proofs.SyncReadLaws.{sync-read}
-use Rattle.lxt_round_trip.proofs.TimesReadLaws.{NeverFall, end, next, above-first, below-last, sums-back, small-time, deltas-small, small-times, times-back, each-entry, no-entry, entry-offsets, entry-times, entry-told}
+use Rattle.lxt_round_trip.proofs.TimesReadLaws.{NeverFall, end, next, above-first, below-last, sums-back, small-time, deltas-small}
+use Rattle.lxt_round_trip.proofs.TimesReadLaws.{small-times, times-back, each-entry, no-entry, entry-offsets, entry-times, entry-told}
 
 -- ---- the times of the changes
 

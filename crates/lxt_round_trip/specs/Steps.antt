@@ -1,5 +1,5 @@
 -- The steps of the round trip: what is read of one written change, and of the written tables.
-use Prim.Native.Nat.{ℕ, zero, suc, _+_, _-_, _≤_, _<_}
+use Prim.Native.Nat.{ℕ, _+_, _≤_, _<_}
 use mathlib.Core.Path.{_≡_}
 use mathlib.Core.Bool.{true}
 use mathlib.Core.List.{List, [], _∷_, map, reverse}
@@ -9,7 +9,7 @@ use Rattle.lxt_format.specs.Limits.{longestFile}
 use Rattle.lxt_format.specs.Basics.{range, any, joined}
 use Rattle.lxt_format.specs.BytesLaws.{AreBytes}
 use Rattle.lxt_format.specs.Sections.{endOf, changesFrom, facilityCount, timescaleOf, initialOf}
-use Rattle.lxt_format.specs.Geometry.{rootOf, rootsOf, ownFacts, syncOf}
+use Rattle.lxt_format.specs.Geometry.{rootOf, ownFacts, syncOf}
 use Rattle.lxt_format.specs.Times.{timeOf}
 use Rattle.lxt_format.specs.Reals.{byteOrder}
 use Rattle.lxt_format.specs.Changes.{Signal, previousOf, changeEnd, faultAt, cleanAt}
@@ -18,8 +18,8 @@ use Rattle.lxt_format.specs.Judge.{tablesRefusal}
 use Rattle.lxt_format.specs.Stray.{bodyTags, inBody}
 use Rattle.lxt_chains.specs.Pending.{Each}
 use Rattle.lxt_written.specs.Input.{Facility, Change, Trace}
-use Rattle.lxt_written.specs.WrittenChanges.{numbered, lastOf, Laid, pairOf, laid, changesBytes}
-use Rattle.lxt_written.specs.WrittenFile.{Section, sectionsOf, anyReal, fileOf}
+use Rattle.lxt_written.specs.WrittenChanges.{numbered, lastOf, pairOf, laid, changesBytes}
+use Rattle.lxt_written.specs.WrittenFile.{sectionsOf, anyReal, fileOf}
 use Rattle.lxt_written.specs.Writing.{factsFor, traceAllowed}
 use Rattle.lxt_written.specs.RoundTrip.{describedIn, described, valueSeen}
 use Rattle.lxt_written.specs.Stands.{Stands}
@@ -75,7 +75,6 @@ pub record TablesRead (t : Trace) (s : List ℕ) : Type 0 where
   pub initial : initialOf s ≡ t .initial
   pub facilities : map (describedIn s) (range 0 (facilityCount s)) ≡ map described (t .facilities)
   pub facts : (f : ℕ) → f < length (t .facilities) → ownFacts s f ≡ factsFor (numbered (t .facilities) f)
-  pub roots : rootsOf s ≡ range 0 (length (t .facilities))
   pub root : (f : ℕ) → f < length (t .facilities) → rootOf s f ≡ f
   pub sync : (f : ℕ) → f < length (t .facilities) → syncOf s f ≡ lastOf f (reverse (map pairOf (laid t)))
   pub times : Each (λ l. timeOf s (l .offset) ≡ pos (l .time)) (laid t)
