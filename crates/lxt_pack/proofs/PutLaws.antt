@@ -1,13 +1,15 @@
 -- Laws of bytes that are put into the lent buffer.
-use Prim.Native.Nat.{ℕ, zero, suc, _+_, _*_, _-_, _/_, _%_, _≤_, _<_}
+use Prim.Native.Nat.{ℕ, suc, _+_, _*_, _-_, _/_, _%_, _≤_, _<_}
 use native.Mathlib.Nat.{add-zero}
 use native.Mathlib.Omega.{arith}
 use mathlib.Core.Path.{_≡_, refl, sym, ap, _∙_}
-use mathlib.Core.List.{List, [], _∷_, _++_, append-assoc}
-use lib.ListN.{length, getD, set, take, drop, length-append, length-set}
-use lib.Seq.{slice, length-slice, slice-cons, slice-empty}
+use mathlib.Core.List.{List, [], _∷_, _++_}
+use lib.ListN.{length, getD, set, drop, length-append, length-set}
+use lib.Seq.{slice, slice-cons, slice-empty, drop-cons, drop-length}
 use Rattle.lxt_format.specs.Buffers.{placed, length-placed, placed-none, placed-more, placed-byte}
+use Rattle.lxt_format.specs.Basics.{joined}
 use Rattle.lxt_written.specs.WrittenChanges.{bigEndian}
+use Rattle.lxt_written.specs.TableSizes.{length-rows}
 
 -- ---- bytes stored one by one
 
@@ -107,3 +109,79 @@ module _ (b : List ℕ) (at x : ℕ) where
       → set (set (set (set b at (x / 16777216 % 256)) (at + 1) (x / 65536 % 256)) (at + 2) (x / 256 % 256)) (at + 3) (x % 256)
       ≡ placed b at (bigEndian 4 x)
   put-four h = stored-four b at (x / 16777216 % 256) (x / 65536 % 256) (x / 256 % 256) (x % 256) h ∙ ap (λ t. placed b at t) (four-is x)
+
+-- ---- texts one after the other
+
+-- a text is put from `at` on; the rest of it, put at p, gives the whole
+pub record Filling (b : List ℕ) (at : ℕ) (text rest b′ : List ℕ) (p : ℕ) : Type 0 where
+  pub left : placed b′ p rest ≡ placed b at text
+  pub room : p + length rest ≤ length b
+  pub long : length b′ ≡ length b
+
+-- nothing is put yet
+pub fill-begun : (b : List ℕ) (at : ℕ) (text : List ℕ) → at + length text ≤ length b → Filling b at text text b at
+fill-begun b at text h = record { left = refl; room = h; long = refl }
+
+-- one of the texts is put
+pub fill-turn : (b : List ℕ) (at : ℕ) (text t rest b′ : List ℕ) (p : ℕ) → Filling b at text (t ++ rest) b′ p
+    → (b″ : List ℕ) → b″ ≡ placed b′ p t → (q : ℕ) → q ≡ p + length t → Filling b at text rest b″ q
+fill-turn b at text t rest b′ p w b″ eb q eq =
+    let e = length-append t rest in
+    let r = w .room in
+    let l = w .long in
+    record {
+      left = rw (eb, eq) (placed-more b′ p t rest (omega arith) ∙ w .left);
+      room = omega arith;
+      long = rw eb (length-placed b′ p t (omega arith) ∙ w .long);
+    }
+
+-- nothing is left
+pub fill-ended : (b : List ℕ) (at : ℕ) (text b′ : List ℕ) (p : ℕ) → Filling b at text [] b′ p → b′ ≡ placed b at text
+fill-ended b at text b′ p w = sym (placed-none b′ p) ∙ w .left
+
+-- ---- rows of equal length
+
+-- f rows are put
+pub record RowsPut {A : Type 0} (g : A → List ℕ) (xs : List A) (b : List ℕ) (at : ℕ) (b′ : List ℕ) (p f : ℕ) : Type 0 where
+  pub filling : Filling b at (joined g xs) (joined g (drop f xs)) b′ p
+  pub upto : f ≤ length xs
+
+module _ {A : Type 0} (k : ℕ) (g : A → List ℕ) (size : (x : A) → length (g x) ≡ k) {xs : List A} {b : List ℕ} {at : ℕ} where
+  -- no row is put yet
+  pub rows-begun : at + k * length xs ≤ length b → RowsPut g xs b at b at 0
+  rows-begun h = record { filling = fill-begun b at (joined g xs) (omega (arith, length-rows k g size xs)); upto = omega arith }
+
+  module _ (d : A) {b′ : List ℕ} {p f : ℕ} (w : RowsPut g xs b at b′ p f) where
+    -- row f and those after it
+    row-next : f < length xs → joined g (drop f xs) ≡ g (getD xs f d) ++ joined g (drop (f + 1) xs)
+    unfolding joined
+    row-next h = let e : f + 1 ≡ suc f = omega arith in rw (e, drop-cons xs f d h)
+
+    -- it has room
+    pub row-room : f < length xs → p + k ≤ length b′
+    row-room h =
+        let e = length-append (g (getD xs f d)) (joined g (drop (f + 1) xs)) in
+        let s = size (getD xs f d) in
+        let n = ap length (row-next h) in
+        let r = w .filling .room in
+        let l = w .filling .long in
+        omega arith
+
+    -- it is put
+    pub row-turn : f < length xs → {b″ : List ℕ} → b″ ≡ placed b′ p (g (getD xs f d)) → RowsPut g xs b at b″ (p + k) (f + 1)
+    row-turn h {b″} e =
+        let x : A = getD xs f d in
+        let s = size x in
+        let w′ : Filling b at (joined g xs) (g x ++ joined g (drop (f + 1) xs)) b′ p = rw (row-next h) at (w .filling) in
+        record {
+          filling = fill-turn b at (joined g xs) (g x) (joined g (drop (f + 1) xs)) b′ p w′ b″ e (p + k) (omega arith);
+          upto = omega arith;
+        }
+
+    -- all are put
+    pub rows-ended : length xs ≤ f → b′ ≡ placed b at (joined g xs)
+    unfolding joined
+    rows-ended h =
+        let e : f ≡ length xs = omega (arith, w .upto) in
+        let none : drop f xs ≡ [] = rw e (drop-length xs) in
+        fill-ended b at (joined g xs) b′ p (rw none at (w .filling))

@@ -1,0 +1,3 @@
+pub mod FacilityLaws
+pub mod GeometryLaws
+pub mod NameLaws

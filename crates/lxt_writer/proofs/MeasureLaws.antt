@@ -1,0 +1,245 @@
+-- Laws of the first pass over the changes.
+use Prim.Native.Nat.{ℕ, zero, suc, _+_, _*_, _-_, _≤_, _<_}
+use native.Mathlib.Omega.{arith}
+use native.Mathlib.Nat.{add-zero, add-assoc}
+use mathlib.Core.Path.{_≡_, refl, sym, ap, _∙_}
+use mathlib.Core.Bool.{Bool, true, false, not, _&&_, _||_}
+use mathlib.Core.List.{List, [], _∷_, _++_, map}
+use lib.ListN.{length, getD, drop, set, length-append}
+use lib.Seq.{drop-cons, drop-length}
+use lib.Dec.{leb, ltb, eqb}
+use borrow.Author.Tests.{le-leb, lt-leb, eq-eqb, ne-eqb, eqb-true, eqb-false}
+use Rattle.lxt_format.specs.Limits.{longestFile}
+use Rattle.lxt_format.specs.Basics.{if_then_else_, all, joined}
+use Rattle.lxt_format.specs.BasicsLaws.{on-test}
+use Rattle.lxt_format.specs.declared.Pair.{Pair}
+use Rattle.lxt_written.specs.Input.{changeOf, changeRowAllowed}
+use Rattle.lxt_written.specs.WrittenChanges.{lastOf, Laid, pairOf, layAt, layFrom}
+use Rattle.lxt_written.specs.WrittenFile.{newTimesAfter, entriesOf}
+use Rattle.lxt_written.specs.Writing.{valueOfAllowed, changesAllowed}
+use Rattle.lxt_writer.specs.declared.changes.Measured.{Measured}
+use Rattle.lxt_writer.specs.Changes.{nameless, layRows, endFrom, soundFrom, Free, Laying, Fresh, rowAllowed, rowBytes, RowSized, isNew, entriesLeft, ChangesMeasured, Measuring}
+use Rattle.lxt_writer.proofs.RowLaws.{row-laid, row-long, row-newest}
+
+-- ---- rows one after the other
+
+-- row i and those after it
+pub row-next : (l : List (List ℕ)) (i : ℕ) → i < length l → drop i l ≡ getD l i [] ∷ drop (i + 1) l
+row-next l i h = let e : i + 1 ≡ suc i = omega arith in rw e (drop-cons l i [] h)
+
+-- none is left
+pub row-none : (l : List (List ℕ)) (i : ℕ) → i ≤ length l → length l ≤ i → drop i l ≡ []
+row-none l i h k = let e : i ≡ length l = omega arith in rw e (drop-length l)
+
+-- the change of a row, laid at o
+abbrev pub laidAt : List (List ℕ) → List ℕ → ℕ → List Pair → List ℕ → Laid
+laidAt rows values o before row = layAt (nameless rows) o before (changeOf values row)
+
+module _ (rows : List (List ℕ)) (values : List ℕ) (o : ℕ) (before : List Pair) (row : List ℕ) (rest : List (List ℕ)) where
+  -- it comes first, and the others follow it
+  pub lay-next : layRows rows values o before (row ∷ rest)
+      ≡ laidAt rows values o before row
+      ∷ layRows rows values (o + length (laidAt rows values o before row .bytes)) (pairOf (laidAt rows values o before row) ∷ before) rest
+  unfolding layFrom
+  lay-next = refl
+
+  pub end-next : endFrom rows values o before (row ∷ rest)
+      ≡ endFrom rows values (o + length (laidAt rows values o before row .bytes)) (pairOf (laidAt rows values o before row) ∷ before) rest
+  unfolding layFrom joined
+  end-next =
+      let bytes : List ℕ = laidAt rows values o before row .bytes in
+      let after : List ℕ = joined (λ l. l .bytes) (layRows rows values (o + length bytes) (pairOf (laidAt rows values o before row) ∷ before) rest) in
+      ap (λ k. o + k) (length-append bytes after) ∙ sym (add-assoc o (length bytes) (length after))
+
+  -- both the row and those after it are allowed
+  pub sound-next : (time : ℕ) → soundFrom rows values o before time (row ∷ rest)
+      ≡ ((leb time (getD row 1 0) && rowAllowed rows row values)
+      && soundFrom rows values (o + length (laidAt rows values o before row .bytes)) (pairOf (laidAt rows values o before row) ∷ before) (getD row 1 0) rest)
+  unfolding soundFrom rowAllowed changesAllowed all changeOf
+  sound-next time =
+      ap (λ e. all (changeRowAllowed values) (row ∷ rest) && (changesAllowed (nameless rows) time (map (changeOf values) (row ∷ rest)) && leb e longestFile)) end-next
+      ∙ apart
+      (changeRowAllowed values row)
+      (all (changeRowAllowed values) rest)
+      (leb time (getD row 1 0))
+      (valueOfAllowed (nameless rows) (getD row 0 0) (changeOf values row .value))
+      (changesAllowed (nameless rows) (getD row 1 0) (map (changeOf values) rest))
+      (leb (endFrom rows values (o + length (laidAt rows values o before row .bytes)) (pairOf (laidAt rows values o before row) ∷ before) rest) longestFile)
+    where
+      apart : (a b t v d e : Bool) → ((a && b) && ((t && (v && d)) && e)) ≡ ((t && (a && v)) && (b && (d && e)))
+      apart true true true true d e = refl
+      apart true true true false d e = refl
+      apart true true false v d e = refl
+      apart true false true true d e = refl
+      apart true false true false d e = refl
+      apart true false false v d e = refl
+      apart false b true v d e = refl
+      apart false b false v d e = refl
+
+-- ---- entries
+
+module _ (o time : ℕ) (l : Laid) (ls : List Laid) where
+  -- a change at o, and those after it, which lie above 4
+  pub entry-new : isNew o time (l .time) ≡ true → (p : ℕ) → 4 < p → entriesLeft o time (l ∷ ls) ≡ l ∷ entriesLeft p (l .time) ls
+  unfolding isNew entriesLeft entriesOf newTimesAfter
+  entry-new h p above =
+      let q : eqb p 4 ≡ false = ne-eqb p 4 (λ e. omega arith) in
+      on-test (eqb o 4)
+      (λ y. rw (y, q))
+      (λ y.
+      let n : eqb (l .time) time ≡ false = on-test (eqb (l .time) time) (λ z. absurd (wrong (eqb o 4) (eqb (l .time) time) y z h)) (λ z. z) in
+      rw (y, q, n))
+    where
+      wrong : (a b : Bool) → a ≡ false → b ≡ true → (a || not b) ≡ true → ⊥
+      wrong true b e f g = let z : _≡_ {A = Bool} true false = e in bad z
+        where
+          bad : _≡_ {A = Bool} true false → ⊥
+          bad z = let k : _≡_ {A = ℕ} 0 1 = cc in omega arith
+      wrong false true e f g = let k : _≡_ {A = ℕ} 0 1 = cc in omega arith
+      wrong false false e f g = let k : _≡_ {A = ℕ} 0 1 = cc in omega arith
+
+  pub entry-old : isNew o time (l .time) ≡ false → (p : ℕ) → 4 < p → entriesLeft o time (l ∷ ls) ≡ entriesLeft p (l .time) ls
+  unfolding isNew entriesLeft newTimesAfter
+  entry-old h p above =
+      let q : eqb p 4 ≡ false = ne-eqb p 4 (λ e. omega arith) in
+      on-test (eqb o 4)
+      (λ y. absurd (first (eqb o 4) (eqb (l .time) time) y h))
+      (λ y.
+      let n : eqb (l .time) time ≡ true = on-test (eqb (l .time) time) (λ z. z) (λ z. absurd (later (eqb o 4) (eqb (l .time) time) z h)) in
+      let e : l .time ≡ time = eqb-true (l .time) time n in
+      rw (y, q, n, e))
+    where
+      first : (a b : Bool) → a ≡ true → (a || not b) ≡ false → ⊥
+      first true b e g = let k : _≡_ {A = ℕ} 0 1 = cc in omega arith
+      first false b e g = let k : _≡_ {A = ℕ} 0 1 = cc in omega arith
+
+      later : (a b : Bool) → b ≡ false → (a || not b) ≡ false → ⊥
+      later true b e g = let k : _≡_ {A = ℕ} 0 1 = cc in omega arith
+      later false true e g = let k : _≡_ {A = ℕ} 0 1 = cc in omega arith
+      later false false e g = let k : _≡_ {A = ℕ} 0 1 = cc in omega arith
+
+  -- how many there are
+  pub entry-counted : (p k : ℕ) → 4 < p → k ≡ (if isNew o time (l .time) then 1 else 0)
+      → length (entriesLeft o time (l ∷ ls)) ≡ k + length (entriesLeft p (l .time) ls)
+  entry-counted p k above e =
+      on-test (isNew o time (l .time))
+      (λ y. let q : k ≡ 1 = e ∙ rw y in let n = ap length (entry-new y p above) in omega arith)
+      (λ y. let q : k ≡ 0 = e ∙ rw y in let n = ap length (entry-old y p above) in omega arith)
+
+-- ---- the pass
+
+module _ (rows changes : List (List ℕ)) (values : List ℕ) where
+  pub measure-begun : (last : List ℕ) → Fresh last (length rows) → Measuring rows changes values 0 4 0 0 last
+  unfolding lastOf entriesLeft
+  measure-begun last fresh =
+      record {
+        before = [];
+        laying =
+            record {
+              free = record { long = fresh .long; below = λ f. let z = fresh .none f in omega arith; most = omega arith };
+              newest = λ f h. fresh .none f;
+            };
+        upto = omega arith;
+        from = omega arith;
+        few = omega arith;
+        sound = refl;
+        end = refl;
+        left = refl;
+      }
+
+  module _ (i o time entries : ℕ) (last : List ℕ) (m : Measuring rows changes values i o time entries last) where
+    -- the row that comes next
+    module _ (h : i < length changes) where
+      next : List ℕ
+      next = getD changes i []
+
+      step : Laid
+      step = laidAt rows values o (m .before) next
+
+      sound-here : soundFrom rows values 4 [] 0 changes
+          ≡ ((leb time (getD next 1 0) && rowAllowed rows next values)
+          && soundFrom rows values (o + length (step .bytes)) (pairOf step ∷ m .before) (getD next 1 0) (drop (i + 1) changes))
+      unfolding next step
+      sound-here = m .sound ∙ rw (row-next changes i h) (sound-next rows values o (m .before) (getD changes i []) (drop (i + 1) changes) time)
+
+      -- its time falls
+      pub time-falls : getD (getD changes i []) 1 0 < time → false ≡ soundFrom rows values 4 [] 0 changes
+      unfolding next
+      time-falls falls = sym (sound-here ∙ rw (lt-leb time (getD (getD changes i []) 1 0) falls))
+
+      -- it is not allowed, or passes the end of the longest file
+      pub row-refused : (r : ℕ) → RowSized rows (getD changes i []) values last o r → longestFile < o + r → false ≡ soundFrom rows values 4 [] 0 changes
+      unfolding next step soundFrom
+      row-refused r sized long =
+          on-test (rowAllowed rows next values)
+          (λ y.
+          let size : r ≡ length (rowBytes rows next values last o) = sized .size y in
+          let bytes = ap length (row-laid rows next values last (m .before) o (m .laying) y) in
+          let past : longestFile < endFrom rows values (o + length (step .bytes)) (pairOf step ∷ m .before) (drop (i + 1) changes) = omega arith in
+          sym (sound-here ∙ rw (lt-leb _ _ past) (none (leb time (getD next 1 0) && rowAllowed rows next values) _ _)))
+          (λ y. sym (sound-here ∙ rw y (neither (leb time (getD next 1 0)) _)))
+        where
+          none : (a b c : Bool) → (a && (b && (c && false))) ≡ false
+          none true true true = refl
+          none true true false = refl
+          none true false c = refl
+          none false b c = refl
+
+          neither : (a b : Bool) → ((a && false) && b) ≡ false
+          neither true b = refl
+          neither false b = refl
+
+      -- it is laid
+      pub measure-turn : time ≤ getD (getD changes i []) 1 0 → (r k : ℕ) → RowSized rows (getD changes i []) values last o r → o + r ≤ longestFile
+          → k ≡ (if isNew o time (getD (getD changes i []) 1 0) then 1 else 0) → k ≤ 1
+          → Measuring rows changes values (i + 1) (o + r) (getD (getD changes i []) 1 0) (entries + k) (set last (getD (getD changes i []) 0 0) o)
+      unfolding next step
+      measure-turn rises r k sized short counted one =
+          let row : List ℕ = getD changes i [] in
+          let allowed : rowAllowed rows row values ≡ true = sized .allowed (omega arith) in
+          let size : r ≡ length (rowBytes rows row values last o) = sized .size allowed in
+          let some = row-long rows row values last (m .before) o (m .laying) allowed in
+          let e : length (step .bytes) ≡ r = ap length (row-laid rows row values last (m .before) o (m .laying) allowed) ∙ sym size in
+          let place : o + length (step .bytes) ≡ o + r = ap (λ z. o + z) e in
+          let rest : List (List ℕ) = drop (i + 1) changes in
+          let whole : layRows rows values o (m .before) (drop i changes) ≡ step ∷ layRows rows values (o + r) (pairOf step ∷ m .before) rest =
+          rw (row-next changes i h) (lay-next rows values o (m .before) row rest ∙ rw place) in
+          record {
+            before = pairOf step ∷ m .before;
+            laying = row-newest rows row values last (m .before) o (m .laying) allowed r (omega arith) short;
+            upto = omega arith;
+            from = omega (arith, m .from);
+            few = omega (arith, m .few);
+            sound = sound-here ∙ rw (le-leb time (getD row 1 0) rises, allowed, place);
+            end = m .end ∙ rw (row-next changes i h) (end-next rows values o (m .before) row rest ∙ rw place);
+            left =
+                let n = entry-counted o time step (layRows rows values (o + r) (pairOf step ∷ m .before) rest) (o + r) k (omega (arith, m .from)) counted in
+                let l = m .left ∙ ap (λ ls. entries + length (entriesLeft o time ls)) whole in
+                omega arith;
+          }
+
+    -- all are laid
+    pub measure-ended : length changes ≤ i → ChangesMeasured rows changes values (record { sound = true; end = o; entries = entries })
+    unfolding soundFrom changesAllowed all layFrom joined entriesLeft entriesOf newTimesAfter
+    measure-ended h =
+        let none : drop i changes ≡ [] = row-none changes i (m .upto) h in
+        let short : o + 0 ≤ longestFile = omega (arith, m .laying .free .most) in
+        record {
+          sound = sym (m .sound ∙ rw (none, le-leb (o + 0) longestFile short));
+          end = λ y. sym (m .end ∙ rw none (add-zero o));
+          end-most = λ y. m .laying .free .most;
+          entries = λ y. sym (m .left ∙ rw none (rw (on-test (eqb o 4) (λ z. rw z) (λ z. rw z) ∙ refl {x = 0}) (add-zero entries)));
+          entries-most = λ y. omega (arith, m .few, m .laying .free .most);
+        }
+
+  -- something is not allowed
+  pub measure-refused : (r : Measured) → false ≡ soundFrom rows values 4 [] 0 changes → r .sound ≡ false → ChangesMeasured rows changes values r
+  measure-refused r e n =
+      let no : r .sound ≡ true → ⊥ = λ y. let q : _≡_ {A = Bool} true false = sym y ∙ n in let k : _≡_ {A = ℕ} 0 1 = cc in omega arith in
+      record {
+        sound = n ∙ e;
+        end = λ y. absurd (no y);
+        end-most = λ y. absurd (no y);
+        entries = λ y. absurd (no y);
+        entries-most = λ y. absurd (no y);
+      }

@@ -1,0 +1,133 @@
+// The changes, in two passes: the first finds whether each is allowed, where they end and how many entries the
+// time table has; the second puts them, with the entries.
+ghost use mathlib.Core.Path.{_≡_};
+ghost use mathlib.Core.Bool.{_&&_, _||_, not};
+ghost use Prim.Native.Nat.{_+_, _*_, _-_, _≤_, _<_};
+ghost use lib.ListN.{length, getD};
+ghost use lib.Dec.{eqb};
+ghost use Rattle.lxt_format.specs.Basics.{if_then_else_};
+ghost use Rattle.lxt_format.specs.Buffers.{placed};
+ghost use Rattle.lxt_writer.specs.Changes.{Widths, Free, RowSized, isNew, Fresh, ChangesMeasured};
+use lxt_facilities::facilities;
+use lxt_facilities::facilities::KIND;
+use lxt_facilities::facilities::LSB;
+use lxt_facilities::facilities::MSB;
+use lxt_format::File;
+use lxt_pack::change;
+use lxt_pack::put;
+
+// The places of a row.
+const FACILITY: usize = 0;
+
+const TIME: usize = 1;
+
+const VALUE_START: usize = 2;
+
+const VALUE_LENGTH: usize = 3;
+
+// The offset of the first change.
+const FIRST: usize = 4;
+
+// ---- the first pass
+
+// The bytes of the change of a row at `at`, after those that the table has of each facility; more than any file
+// has where the row is not allowed.
+fn row_size(facilities: &[[u32; 5]], row: [u32; 4], values: &[u8], last: &[u32], at: usize) -> usize
+    requires { ⌜ Widths (now facilities) × Free (now last) (length (now facilities)) at ⌝ }
+    ensures { λ r. ⌜ RowSized (now (facilities .entry)) row (now (values .entry)) (now (last .entry)) at r ⌝ }
+{
+    let f = row[FACILITY] as usize;
+    if facilities.len() <= f {
+        return change::NONE;
+    }
+    let start = row[VALUE_START] as usize;
+    let end = start + row[VALUE_LENGTH] as usize;
+    if values.len() < end {
+        return change::NONE;
+    }
+    let facility = facilities[f];
+    let width = facilities::width_of(
+        facilities::kind_of(facility[KIND]),
+        facility[MSB],
+        facility[LSB],
+    );
+    let delta = at - last[f] as usize - 2;
+    change::size_of(
+        facilities::kind_of(facility[KIND]),
+        width,
+        values,
+        start,
+        end,
+        delta as u32,
+    )
+}
+
+// A change at `at` gets an entry: it is the first, or its time is new.
+fn is_new(at: usize, before: u32, time: u32) -> bool
+    ensures { λ r. ⌜ r ≡ isNew at before time ⌝ }
+{
+    (at == FIRST) | (time != before)
+}
+
+fn one_if(b: bool) -> usize
+    ensures { λ r. ⌜ (r ≡ (if b then 1 else 0)) × (r ≤ 1) ⌝ }
+{
+    if b {
+        return 1;
+    }
+    0
+}
+
+// What the first pass finds: whether all is allowed and short enough, the offset after the last change, and
+// the entries of the time table.
+pub struct Measured {
+    pub sound: bool,
+    pub end: usize,
+    pub entries: usize,
+}
+
+fn refused() -> Measured
+    ensures { λ r. ⌜ r .sound ≡ false ⌝ }
+{
+    Measured {
+        sound: false,
+        end: 0,
+        entries: 0,
+    }
+}
+
+// `last` has a number for each facility, all 0.
+pub fn measure(
+    facilities: &[[u32; 5]],
+    changes: &[[u32; 4]],
+    values: &[u8],
+    last: &mut [u32],
+) -> Measured
+    requires { ⌜ Widths (now facilities) × Fresh (now last) (length (now facilities)) ⌝ }
+    ensures { λ r. ⌜ ChangesMeasured (now (facilities .entry)) (now (changes .entry)) (now (values .entry)) r ⌝ }
+{
+    let mut at: usize = FIRST;
+    let mut time: u32 = 0;
+    let mut entries: usize = 0;
+    let mut i: usize = 0;
+    while i < changes.len() {
+        let row = changes[i];
+        if row[TIME] < time {
+            return refused();
+        }
+        let size = row_size(facilities, row, values, last, at);
+        if File::LONGEST - at < size {
+            return refused();
+        }
+        entries += one_if(is_new(at, time, row[TIME]));
+        last[row[FACILITY] as usize] = at as u32;
+        at += size;
+        time = row[TIME];
+        i += 1;
+    }
+    Measured {
+        sound: true,
+        end: at,
+        entries,
+    }
+}

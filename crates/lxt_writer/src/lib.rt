@@ -1,0 +1,2 @@
+// Writing a trace.
+pub mod changes;
