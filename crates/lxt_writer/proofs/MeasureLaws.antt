@@ -1,7 +1,7 @@
 -- Laws of the first pass over the changes.
 use Prim.Native.Nat.{ℕ, zero, suc, _+_, _*_, _-_, _≤_, _<_}
 use native.Mathlib.Omega.{arith}
-use native.Mathlib.Nat.{add-zero, add-assoc}
+use native.Mathlib.Nat.{add-zero, zero-add, add-assoc}
 use mathlib.Core.Path.{_≡_, refl, sym, ap, _∙_}
 use mathlib.Core.Bool.{Bool, true, false, not, _&&_, _||_}
 use mathlib.Core.List.{List, [], _∷_, _++_, map}
@@ -19,7 +19,7 @@ use Rattle.lxt_written.specs.WrittenFile.{newTimesAfter, entriesOf}
 use Rattle.lxt_written.specs.Writing.{valueOfAllowed, changesAllowed}
 use Rattle.lxt_writer.specs.declared.changes.Measured.{Measured}
 use Rattle.lxt_writer.specs.Changes.{nameless, layRows, endFrom, soundFrom, Free, Laying, Fresh, rowAllowed, rowBytes, RowSized, isNew, entriesLeft, ChangesMeasured, Measuring}
-use Rattle.lxt_writer.proofs.RowLaws.{row-laid, row-long, row-newest}
+use Rattle.lxt_writer.proofs.RowLaws.{row-known, row-laid, row-long, row-newest}
 
 -- ---- rows one after the other
 
@@ -126,6 +126,11 @@ module _ (o time : ℕ) (l : Laid) (ls : List Laid) where
       (λ y. let q : k ≡ 1 = e ∙ rw y in let n = ap length (entry-new y p above) in omega arith)
       (λ y. let q : k ≡ 0 = e ∙ rw y in let n = ap length (entry-old y p above) in omega arith)
 
+-- where no change is left, no entry is
+pub entries-none : (o time : ℕ) → entriesLeft o time [] ≡ []
+unfolding entriesLeft entriesOf newTimesAfter
+entries-none o time = on-test (eqb o 4) (λ y. rw y) (λ y. rw y)
+
 -- ---- the pass
 
 module _ (rows changes : List (List ℕ)) (values : List ℕ) where
@@ -144,10 +149,17 @@ module _ (rows changes : List (List ℕ)) (values : List ℕ) where
         few = omega arith;
         sound = refl;
         end = refl;
-        left = refl;
+        left = sym (zero-add (length (entriesOf (layRows rows values 4 [] changes))));
       }
 
   module _ (i o time entries : ℕ) (last : List ℕ) (m : Measuring rows changes values i o time entries last) where
+    -- the facility of a row that is allowed has a place in the table
+    pub table-known : (row : List ℕ) (f r : ℕ) → f ≡ getD row 0 0 → RowSized rows row values last o r → r ≤ longestFile - o → f < length last
+    table-known row f r e sized short =
+        let allowed : rowAllowed rows row values ≡ true = sized .allowed (omega arith) in
+        let known = row-known rows row values last (m .before) o (m .laying) allowed in
+        omega (arith, m .laying .free .long)
+
     -- the row that comes next
     module _ (h : i < length changes) where
       next : List ℕ
@@ -176,7 +188,7 @@ module _ (rows changes : List (List ℕ)) (values : List ℕ) where
           let size : r ≡ length (rowBytes rows next values last o) = sized .size y in
           let bytes = ap length (row-laid rows next values last (m .before) o (m .laying) y) in
           let past : longestFile < endFrom rows values (o + length (step .bytes)) (pairOf step ∷ m .before) (drop (i + 1) changes) = omega arith in
-          sym (sound-here ∙ rw (lt-leb _ _ past) (none (leb time (getD next 1 0) && rowAllowed rows next values) _ _)))
+          sym (sound-here ∙ rw (lt-leb _ _ past) (none (leb time (getD next 1 0) && rowAllowed rows next values) (all (changeRowAllowed values) (drop (i + 1) changes)) (changesAllowed (nameless rows) (getD next 1 0) (map (changeOf values) (drop (i + 1) changes))))))
           (λ y. sym (sound-here ∙ rw y (neither (leb time (getD next 1 0)) _)))
         where
           none : (a b c : Bool) → (a && (b && (c && false))) ≡ false
@@ -191,10 +203,10 @@ module _ (rows changes : List (List ℕ)) (values : List ℕ) where
 
       -- it is laid
       pub measure-turn : time ≤ getD (getD changes i []) 1 0 → (r k : ℕ) → RowSized rows (getD changes i []) values last o r → o + r ≤ longestFile
-          → k ≡ (if isNew o time (getD (getD changes i []) 1 0) then 1 else 0) → k ≤ 1
-          → Measuring rows changes values (i + 1) (o + r) (getD (getD changes i []) 1 0) (entries + k) (set last (getD (getD changes i []) 0 0) o)
-      unfolding next step
-      measure-turn rises r k sized short counted one =
+          → k ≡ (if isNew o time (getD (getD changes i []) 1 0) then 1 else 0) → k ≤ 1 → (f : ℕ) → f ≡ getD (getD changes i []) 0 0
+          → Measuring rows changes values (i + 1) (o + r) (getD (getD changes i []) 1 0) (entries + k) (set last f o)
+      unfolding next step layAt changeOf
+      measure-turn rises r k sized short counted one f ef =
           let row : List ℕ = getD changes i [] in
           let allowed : rowAllowed rows row values ≡ true = sized .allowed (omega arith) in
           let size : r ≡ length (rowBytes rows row values last o) = sized .size allowed in
@@ -206,7 +218,7 @@ module _ (rows changes : List (List ℕ)) (values : List ℕ) where
           rw (row-next changes i h) (lay-next rows values o (m .before) row rest ∙ rw place) in
           record {
             before = pairOf step ∷ m .before;
-            laying = row-newest rows row values last (m .before) o (m .laying) allowed r (omega arith) short;
+            laying = rw ef (row-newest rows row values last (m .before) o (m .laying) allowed r (omega arith) short);
             upto = omega arith;
             from = omega (arith, m .from);
             few = omega (arith, m .few);
@@ -220,7 +232,7 @@ module _ (rows changes : List (List ℕ)) (values : List ℕ) where
 
     -- all are laid
     pub measure-ended : length changes ≤ i → ChangesMeasured rows changes values (record { sound = true; end = o; entries = entries })
-    unfolding soundFrom changesAllowed all layFrom joined entriesLeft entriesOf newTimesAfter
+    unfolding soundFrom changesAllowed all layFrom joined
     measure-ended h =
         let none : drop i changes ≡ [] = row-none changes i (m .upto) h in
         let short : o + 0 ≤ longestFile = omega (arith, m .laying .free .most) in
@@ -228,7 +240,7 @@ module _ (rows changes : List (List ℕ)) (values : List ℕ) where
           sound = sym (m .sound ∙ rw (none, le-leb (o + 0) longestFile short));
           end = λ y. sym (m .end ∙ rw none (add-zero o));
           end-most = λ y. m .laying .free .most;
-          entries = λ y. sym (m .left ∙ rw none (rw (on-test (eqb o 4) (λ z. rw z) (λ z. rw z) ∙ refl {x = 0}) (add-zero entries)));
+          entries = λ y. sym (m .left ∙ rw (none, entries-none o time) (add-zero entries));
           entries-most = λ y. omega (arith, m .few, m .laying .free .most);
         }
 

@@ -34,12 +34,17 @@ pub numbered-row : (rows : List (List ℕ)) (f : ℕ) → f < length rows → nu
 numbered-row rows f h = map-at (facilityOf []) [] noFacility rows f h
 
 -- the width of a facility that is not too wide is one of its kind
-pub width-for : (kind : Kind) (msb lsb : ℕ) → factsBy kind msb lsb .width ≤ widestFacility → WidthFor kind (factsBy kind msb lsb .width)
+width-for : (kind : Kind) (msb lsb : ℕ) → factsBy kind msb lsb .width ≤ widestFacility → WidthFor kind (factsBy kind msb lsb .width)
 unfolding factsBy widthBetween
 width-for Bits msb lsb h = (omega arith, h)
 width-for Integer msb lsb h = refl
 width-for Real msb lsb h = refl
 width-for Text msb lsb h = refl
+
+pub width-known : (facility : List ℕ) (kind : Kind) (width : ℕ) → kind ≡ kindOfCode (getD facility 2 0) → width ≡ factsBy kind (getD facility 3 0) (getD facility 4 0) .width
+    → factsFor (facilityOf [] facility) .width ≤ widestFacility → WidthFor kind width
+unfolding factsFor facilityOf
+width-known facility kind width ek ew h = rw ew (width-for kind (getD facility 3 0) (getD facility 4 0) (rw ek h))
 
 -- ---- how many bytes a row takes
 
@@ -67,13 +72,13 @@ row-past rows row values last o h =
     }
 
 module _ (rows : List (List ℕ)) (row values last : List ℕ) (o : ℕ) (known : getD row 0 0 < length rows) (inside : getD row 2 0 + getD row 3 0 ≤ length values) where
-  facility : List ℕ
+  abbrev facility : List ℕ
   facility = getD rows (getD row 0 0) []
 
   -- it is allowed where its value is
   row-value : rowAllowed rows row values
       ≡ valueAllowed (kindOfCode (getD facility 2 0)) (factsBy (kindOfCode (getD facility 2 0)) (getD facility 3 0) (getD facility 4 0) .width) (part values (getD row 2 0) (getD row 3 0))
-  unfolding rowAllowed changeRowAllowed valueOfAllowed factsFor facilityOf facility
+  unfolding rowAllowed changeRowAllowed valueOfAllowed factsFor facilityOf
   row-value =
       let n = length-map rows (facilityOf []) in
       rw (le-leb _ _ inside, lt-ltb (getD row 0 0) (length (nameless rows)) (omega arith), numbered-row rows (getD row 0 0) known)
@@ -82,7 +87,7 @@ module _ (rows : List (List ℕ)) (row values last : List ℕ) (o : ℕ) (known 
       → delta ≡ o - getD last (getD row 0 0) 0 - 2
       → r ≡ 1 + fewestBytes delta + sizeFor kind width (slice (getD row 2 0) (getD row 2 0 + getD row 3 0) values) → r ≤ 5 + notAllowed
       → RowSized rows row values last o r
-  unfolding sizeFor rowBytes part facility
+  unfolding sizeFor rowBytes part
   row-sized kind width delta r ek ew ed er most =
       let value : List ℕ = part values (getD row 2 0) (getD row 3 0) in
       let same : rowAllowed rows row values ≡ valueAllowed kind width value = row-value ∙ rw (ew, ek) in

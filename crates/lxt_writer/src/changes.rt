@@ -1,7 +1,7 @@
 // The changes, in two passes: the first finds whether each is allowed, where they end and how many entries the
 // time table has; the second puts them, with the entries.
 ghost use mathlib.Core.Path.{_≡_};
-ghost use mathlib.Core.Bool.{_&&_, _||_, not};
+ghost use mathlib.Core.Bool.{false};
 ghost use Prim.Native.Nat.{_+_, _*_, _-_, _≤_, _<_};
 ghost use lib.ListN.{length, getD};
 ghost use lib.Dec.{eqb};
@@ -28,6 +28,12 @@ const VALUE_LENGTH: usize = 3;
 // The offset of the first change.
 const FIRST: usize = 4;
 
+fn facility_of(row: [u32; 4]) -> usize
+    ensures { λ r. ⌜ (r ≡ getD row 0 0) × (r < 4294967296) ⌝ }
+{
+    row[FACILITY] as usize
+}
+
 // ---- the first pass
 
 // The bytes of the change of a row at `at`, after those that the table has of each facility; more than any file
@@ -46,20 +52,10 @@ fn row_size(facilities: &[[u32; 5]], row: [u32; 4], values: &[u8], last: &[u32],
         return change::NONE;
     }
     let facility = facilities[f];
-    let width = facilities::width_of(
-        facilities::kind_of(facility[KIND]),
-        facility[MSB],
-        facility[LSB],
-    );
+    let kind = facilities::kind_of(facility[KIND]);
+    let width = facilities::width_of(kind, facility[MSB], facility[LSB]);
     let delta = at - last[f] as usize - 2;
-    change::size_of(
-        facilities::kind_of(facility[KIND]),
-        width,
-        values,
-        start,
-        end,
-        delta as u32,
-    )
+    change::size_of(kind, width, values, start, end, delta as u32)
 }
 
 // A change at `at` gets an entry: it is the first, or its time is new.
@@ -112,6 +108,7 @@ pub fn measure(
     let mut i: usize = 0;
     while i < changes.len() {
         let row = changes[i];
+        let f = facility_of(row);
         if row[TIME] < time {
             return refused();
         }
@@ -120,7 +117,7 @@ pub fn measure(
             return refused();
         }
         entries += one_if(is_new(at, time, row[TIME]));
-        last[row[FACILITY] as usize] = at as u32;
+        last[f] = at as u32;
         at += size;
         time = row[TIME];
         i += 1;
