@@ -1,20 +1,21 @@
 -- What the functions over the rows of changes answer and ask. `rows` are those of the facilities, `row` is one of a change.
 use Prim.Native.Nat.{ℕ, zero, suc, _+_, _*_, _-_, _≤_, _<_}
 use mathlib.Core.Path.{_≡_}
-use mathlib.Core.Bool.{Bool, true, not, _&&_, _||_}
-use mathlib.Core.List.{List, [], _∷_, _++_, map, reverseAux}
+use mathlib.Core.Bool.{Bool, true, false, not, _&&_, _||_}
+use mathlib.Core.List.{List, [], _∷_, _++_, map, reverse, reverseAux}
 use lib.ListN.{length, getD, drop}
 use lib.Dec.{leb, ltb, eqb}
 use Rattle.lxt_format.specs.Limits.{longestFile, widestFacility}
 use Rattle.lxt_format.specs.Basics.{if_then_else_, all, joined}
-use Rattle.lxt_format.specs.Geometry.{factsBy}
+use Rattle.lxt_format.specs.Buffers.{placed}
 use Rattle.lxt_format.specs.declared.Pair.{Pair}
 use Rattle.lxt_written.specs.Input.{Facility, Change, part, kindOfCode, facilityOf, changeOf, changeRowAllowed}
-use Rattle.lxt_written.specs.WrittenChanges.{changeBytes, lastOf, Laid, pairOf, layFrom}
+use Rattle.lxt_written.specs.WrittenChanges.{bigEndian, changeBytes, lastOf, Laid, pairOf, layFrom}
 use Rattle.lxt_written.specs.WrittenFile.{words, deltasFrom, newTimesAfter, entriesOf}
 use Rattle.lxt_written.specs.Writing.{factsFor, valueOfAllowed, changesAllowed}
 use Rattle.lxt_written.specs.Stands.{Stands}
 use Rattle.lxt_writer.specs.declared.changes.Measured.{Measured}
+use Rattle.lxt_writer.specs.declared.changes.Entry.{Entry}
 
 -- ---- rows
 
@@ -108,3 +109,91 @@ pub record Measuring (rows changes : List (List ℕ)) (values : List ℕ) (i o t
   pub sound : soundFrom rows values 4 [] 0 changes ≡ soundFrom rows values o before time (drop i changes)
   pub end : endFrom rows values 4 [] changes ≡ endFrom rows values o before (drop i changes)
   pub left : length (entriesOf (layRows rows values 4 [] changes)) ≡ entries + length (entriesLeft o time (layRows rows values o before (drop i changes)))
+
+-- ---- the second pass
+
+-- the entry of a change at o of the time t, and room for it
+pub record EntryAsked (out : List ℕ) (e : Entry) (gap o t : ℕ) : Type 0 where
+  pub apart : isNew o (e .time) t ≡ true → 4 ≤ gap
+  pub room : isNew o (e .time) t ≡ true → e .at + gap + 4 ≤ length out
+  pub behind : e .position ≤ o
+  pub most : o ≤ longestFile
+  pub rises : e .time ≤ t
+
+-- it is put where the change gets one
+pub record EntryPut (out : List ℕ) (e : Entry) (gap o t : ℕ) (out′ : List ℕ) (e′ : Entry) : Type 0 where
+  pub old : isNew o (e .time) t ≡ false → (out′ ≡ out) × (e′ ≡ e)
+  pub new : isNew o (e .time) t ≡ true
+      → (out′ ≡ placed (placed out (e .at) (bigEndian 4 (o - e .position))) (e .at + gap) (bigEndian 4 (t - e .time)))
+      × (e′ ≡ record { at = e .at + 4; position = o; time = t })
+
+-- a row that is allowed, and room for its change at o
+pub record RowAsked (rows : List (List ℕ)) (row values last out : List ℕ) (o : ℕ) : Type 0 where
+  pub widths : Widths rows
+  pub free : Free last (length rows) o
+  pub allowed : rowAllowed rows row values ≡ true
+  pub room : o + length (rowBytes rows row values last o) ≤ length out
+
+pub record RowPut (bytes out : List ℕ) (o : ℕ) (out′ : List ℕ) (r : ℕ) : Type 0 where
+  pub puts : out′ ≡ placed out o bytes
+  pub ends : r ≡ o + length bytes
+
+-- the columns of the time table
+abbrev pub positionsOf : ℕ → List Laid → List ℕ
+positionsOf before ls = words (deltasFrom before (map (λ l. l .offset) ls))
+
+abbrev pub timesOf : ℕ → List Laid → List ℕ
+timesOf before ls = words (deltasFrom before (map (λ l. l .time) ls))
+
+-- changes that are allowed, and room for them and for the columns of the time table
+pub record PutAsked (rows changes : List (List ℕ)) (values last out : List ℕ) (positions gap : ℕ) : Type 0 where
+  pub widths : Widths rows
+  pub fresh : Fresh last (length rows)
+  pub sound : soundFrom rows values 4 [] 0 changes ≡ true
+  pub column : gap ≡ 4 * length (entriesOf (layRows rows values 4 [] changes))
+  pub after : endFrom rows values 4 [] changes ≤ positions
+  pub room : positions + gap + gap ≤ length out
+
+-- they are put, and the table has the newest change of each facility
+pub record ChangesPut (rows changes : List (List ℕ)) (values out : List ℕ) (positions gap : ℕ) (last′ out′ : List ℕ) : Type 0 where
+  pub bytes : Stands out′ 4 (joined (λ l. l .bytes) (layRows rows values 4 [] changes))
+  pub positions-stand : Stands out′ positions (positionsOf 0 (entriesOf (layRows rows values 4 [] changes)))
+  pub times-stand : Stands out′ (positions + gap) (timesOf 0 (entriesOf (layRows rows values 4 [] changes)))
+  pub newest : (f : ℕ) → f < length rows → getD last′ f 0 ≡ lastOf f (reverse (map pairOf (layRows rows values 4 [] changes)))
+  pub long : length out′ ≡ length out
+  pub tail : (k : ℕ) → positions + gap + gap ≤ k → drop k out′ ≡ drop k out
+
+-- the columns up to the entries that are left
+pub record EntriesPut (whole-positions whole-times : List ℕ) (left : List Laid) (positions gap : ℕ) (e : Entry) (out : List ℕ) : Type 0 where
+  pub put-positions : List ℕ
+  pub put-times : List ℕ
+  pub positions-left : whole-positions ≡ put-positions ++ positionsOf (e .position) left
+  pub times-left : whole-times ≡ put-times ++ timesOf (e .time) left
+  pub alike : length put-times ≡ length put-positions
+  pub place : e .at ≡ positions + length put-positions
+  pub positions-stand : Stands out positions put-positions
+  pub times-stand : Stands out (positions + gap) put-times
+
+-- after i changes
+pub record Writing (rows changes : List (List ℕ)) (values out : List ℕ) (positions gap i o : ℕ) (e : Entry) (last′ out′ : List ℕ) : Type 0 where
+  pub before : List Pair
+  pub done : List ℕ
+  pub laying : Laying before last′ (length rows) o
+  pub upto : i ≤ length changes
+  pub from : 4 ≤ o
+  pub behind : e .position ≤ o
+  pub sound : soundFrom rows values o before (e .time) (drop i changes) ≡ true
+  pub pairs : reverse (map pairOf (layRows rows values 4 [] changes)) ≡ reverseAux (map pairOf (layRows rows values o before (drop i changes))) before
+  pub bytes : joined (λ l. l .bytes) (layRows rows values 4 [] changes) ≡ done ++ joined (λ l. l .bytes) (layRows rows values o before (drop i changes))
+  pub place : o ≡ 4 + length done
+  pub stands : Stands out′ 4 done
+  pub entries : EntriesPut
+      (positionsOf 0 (entriesOf (layRows rows values 4 [] changes)))
+      (timesOf 0 (entriesOf (layRows rows values 4 [] changes)))
+      (entriesLeft o (e .time) (layRows rows values o before (drop i changes)))
+      positions
+      gap
+      e
+      out′
+  pub long : length out′ ≡ length out
+  pub tail : (k : ℕ) → positions + gap + gap ≤ k → drop k out′ ≡ drop k out

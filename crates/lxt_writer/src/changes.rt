@@ -7,7 +7,7 @@ ghost use lib.ListN.{length, getD};
 ghost use lib.Dec.{eqb};
 ghost use Rattle.lxt_format.specs.Basics.{if_then_else_};
 ghost use Rattle.lxt_format.specs.Buffers.{placed};
-ghost use Rattle.lxt_writer.specs.Changes.{Widths, Free, RowSized, isNew, Fresh, ChangesMeasured};
+ghost use Rattle.lxt_writer.specs.Changes.{Widths, Free, RowSized, isNew, Fresh, ChangesMeasured, rowBytes, EntryAsked, EntryPut, RowAsked, RowPut, PutAsked, ChangesPut};
 use lxt_facilities::facilities;
 use lxt_facilities::facilities::KIND;
 use lxt_facilities::facilities::LSB;
@@ -126,5 +126,90 @@ pub fn measure(
         sound: true,
         end: at,
         entries,
+    }
+}
+
+// ---- the second pass
+
+// Where the next entry of the time table goes, and the position and the time of the newest.
+pub struct Entry {
+    pub at: usize,
+    pub position: usize,
+    pub time: u32,
+}
+
+// Puts the entry of a change at `at`, where it gets one. The times stand `gap` bytes behind the positions.
+fn put_entry(out: &mut [u8], e: Entry, gap: usize, at: usize, time: u32) -> Entry
+    requires { ⌜ EntryAsked (now out) e gap at time ⌝ }
+    ensures { λ r. ⌜ EntryPut (now (out .entry)) e gap at time (now (out .exit)) r ⌝ }
+{
+    if !is_new(at, e.time, time) {
+        return e;
+    }
+    let place = e.at;
+    put::four(out, place, (at - e.position) as u32);
+    put::four(out, place + gap, time - e.time);
+    Entry {
+        at: place + 4,
+        position: at,
+        time,
+    }
+}
+
+// Puts the change of a row at `at`, and says where it ends.
+fn put_row(
+    facilities: &[[u32; 5]],
+    row: [u32; 4],
+    values: &[u8],
+    last: &[u32],
+    out: &mut [u8],
+    at: usize,
+) -> usize
+    requires { ⌜ RowAsked (now facilities) row (now values) (now last) (now out) at ⌝ }
+    ensures { λ r. ⌜ RowPut (rowBytes (now (facilities .entry)) row (now (values .entry)) (now (last .entry)) at) (now (out .entry)) at (now (out .exit)) r ⌝ }
+{
+    let f = row[FACILITY] as usize;
+    let start = row[VALUE_START] as usize;
+    let end = start + row[VALUE_LENGTH] as usize;
+    let facility = facilities[f];
+    let delta = at - last[f] as usize - 2;
+    change::put(
+        facilities::kind_of(facility[KIND]),
+        values,
+        start,
+        end,
+        delta as u32,
+        out,
+        at,
+    )
+}
+
+// `last` has a number for each facility, all 0, and then the newest change of each.
+pub fn put_all(
+    facilities: &[[u32; 5]],
+    changes: &[[u32; 4]],
+    values: &[u8],
+    last: &mut [u32],
+    out: &mut [u8],
+    positions: usize,
+    gap: usize,
+)
+    requires { ⌜ PutAsked (now facilities) (now changes) (now values) (now last) (now out) positions gap ⌝ }
+    ensures { λ _. ⌜ ChangesPut (now (facilities .entry)) (now (changes .entry)) (now (values .entry)) (now (out .entry)) positions gap (now (last .exit)) (now (out .exit)) ⌝ }
+{
+    let mut at: usize = FIRST;
+    let mut e = Entry {
+        at: positions,
+        position: 0,
+        time: 0,
+    };
+    let mut i: usize = 0;
+    while i < changes.len() {
+        let row = changes[i];
+        e = put_entry(out, e, gap, at, row[TIME]);
+        let next = put_row(facilities, row, values, last, out, at);
+        last[facility_of(row)] = at as u32;
+        at = next;
+        i += 1;
     }
 }
