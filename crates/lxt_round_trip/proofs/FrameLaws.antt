@@ -16,11 +16,12 @@ use Rattle.lxt_format.specs.Sections.{lengthAllowed, startsRight, endsRight, se
 use Rattle.lxt_format.specs.Sections.{facilityCount, wideTimes, timesAt, timeCount, nothingCompressed, timesOnce, sectionsPresent}
 use Rattle.lxt_format.specs.Sections.{bodySize, bodyInside, bodiesInside, countAllowed, timescaleAllowed, timescaleOf, initialOf}
 use Rattle.lxt_format.specs.Names.{memoryOf}
-use Rattle.lxt_written.specs.Input.{Facility, Trace}
+use Rattle.lxt_written.specs.Input.{Trace}
 use Rattle.lxt_written.specs.WrittenChanges.{bigEndian, lastOf, pairOf, laid}
 use Rattle.lxt_written.specs.WrittenFile.{words, namesFrom, namesOf, namesBody, geometryBytes, geometryBody, syncBody, entriesOf, deltasFrom, timesBody, signedByte}
 use Rattle.lxt_written.specs.Stands.{stands-front, length-bigEndian}
-use Rattle.lxt_round_trip.proofs.TableLaws.{length-rows, length-words, stands-word}
+use Rattle.lxt_written.specs.TableSizes.{length-rows, length-words, length-geometry}
+use Rattle.lxt_round_trip.proofs.TableLaws.{stands-word}
 use Rattle.lxt_round_trip.proofs.ListLaws.{any-none}
 use Rattle.lxt_round_trip.proofs.AllowedLaws.{Kept}
 use Rattle.lxt_round_trip.proofs.SectionLaws.{Shape}
@@ -51,11 +52,6 @@ module _ (t : Trace) (s : List ℕ) (h : Shape t s) where
   ends-right = eq-eqb (byteAt s (length s - 1)) 0xB4 (h .last)
 
 -- ---- the lengths of the bodies
-
--- a row of the geometry
-pub length-geometry : (f : Facility) → length (geometryBytes f) ≡ 16
-unfolding geometryBytes
-length-geometry f = length-words _
 
 -- "16 bytes per facility"
 geometry-long : (t : Trace) → length (geometryBody t) ≡ 16 * length (t .facilities)

@@ -27,7 +27,8 @@ use Rattle.lxt_round_trip.proofs.TableLaws.{stands-row, stands-word}
 use Rattle.lxt_round_trip.proofs.ListLaws.{each-at, any-places, select-range}
 use Rattle.lxt_round_trip.proofs.AllowedLaws.{FacilityKept, Kept}
 use Rattle.lxt_round_trip.proofs.BodyLaws.{Bodies}
-use Rattle.lxt_round_trip.proofs.FrameLaws.{length-geometry, count-read}
+use Rattle.lxt_written.specs.TableSizes.{length-geometry}
+use Rattle.lxt_round_trip.proofs.FrameLaws.{count-read}
 
 -- ---- kinds
 

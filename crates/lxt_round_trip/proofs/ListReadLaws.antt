@@ -17,7 +17,8 @@ use Rattle.lxt_chains.proofs.Lists.{each-joined, each-range}
 use Rattle.lxt_written.specs.WrittenChanges.{bigEndian}
 use Rattle.lxt_written.specs.WrittenFile.{itemBytes}
 use Rattle.lxt_written.specs.Stands.{Stands, stands-front, stands-back, length-bigEndian}
-use Rattle.lxt_round_trip.proofs.TableLaws.{length-rows, stands-u32}
+use Rattle.lxt_written.specs.TableSizes.{length-rows}
+use Rattle.lxt_round_trip.proofs.TableLaws.{stands-u32}
 
 -- ---- items
 

@@ -17,7 +17,8 @@ use Rattle.lxt_written.specs.Input.{Facility, Trace}
 use Rattle.lxt_written.specs.WrittenChanges.{noFacility, numbered}
 use Rattle.lxt_written.specs.WrittenFile.{words, namesFrom, namesOf, namesBody}
 use Rattle.lxt_written.specs.Stands.{stands-front, stands-back}
-use Rattle.lxt_round_trip.proofs.TableLaws.{length-words, stands-word, slice-front}
+use Rattle.lxt_written.specs.TableSizes.{length-words}
+use Rattle.lxt_round_trip.proofs.TableLaws.{stands-word, slice-front}
 use Rattle.lxt_round_trip.proofs.AllowedLaws.{FacilityKept, Kept}
 use Rattle.lxt_round_trip.proofs.BodyLaws.{Bodies}
 use Rattle.lxt_round_trip.proofs.FrameLaws.{count-read, names-long}

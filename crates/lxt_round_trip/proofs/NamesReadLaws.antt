@@ -18,6 +18,7 @@ use Rattle.lxt_chains.specs.Pending.{Each}
 use Rattle.lxt_written.specs.WrittenChanges.{bigEndian}
 use Rattle.lxt_written.specs.WrittenFile.{shared, nameBytes, namesFrom}
 use Rattle.lxt_written.specs.Writing.{noZero}
+use Rattle.lxt_written.specs.TableSizes.{name-long}
 use Rattle.lxt_written.specs.Stands.{stands-whole, stands-front, stands-number, length-bigEndian}
 
 -- ---- the prefix that two names share
@@ -140,15 +141,6 @@ names-read (name ∷ names) before rest (Each.both h k) =
     let none = no-zero-drop p name (h .no-zero) in
     let next = name-next (length names) p (drop p name) more (omega (arith, h .short)) none before (shared-before before name) (rw e (h .short)) in
     rw (names-shape before name names rest, next, e, names-read names name rest k)
-
--- the bytes of a name and of those after it
-name-long : (before name : List ℕ) (names : List (List ℕ))
-    → length (namesFrom before (name ∷ names)) ≡ 2 + length (drop (shared before name) name) + 1 + length (namesFrom name names)
-unfolding namesFrom nameBytes
-name-long before name names =
-    let b : List ℕ = bigEndian 2 (shared before name) in
-    let d : List ℕ = drop (shared before name) name in
-    omega (arith, length-append (b ++ (d ++ (0 ∷ []))) (namesFrom name names), length-append b (d ++ (0 ∷ [])), length-append d (0 ∷ []), length-bigEndian 2 (shared before name))
 
 -- and take the bytes that were written
 pub names-size : (names : List (List ℕ)) (before rest : List ℕ) → Each NameKept names → namesSize (length names) (namesFrom before names ++ rest) ≡ length (namesFrom before names)

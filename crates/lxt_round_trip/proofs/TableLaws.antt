@@ -2,10 +2,10 @@
 use Prim.Native.Nat.{ℕ, zero, suc, _+_, _*_, _-_, _≤_, _<_}
 use mathlib.Core.Path.{_≡_, refl, sym, _∙_}
 use mathlib.Core.List.{List, [], _∷_, _++_}
-use lib.ListN.{length, getD, take, drop, length-append, length-drop, take-append-drop}
+use lib.ListN.{length, getD, take, drop, length-drop, take-append-drop}
 use lib.Seq.{slice, length-take-le, length-slice, getD-take, getD-drop, drop-drop, ext-getD}
 use native.Mathlib.Omega.{arith}
-use native.Mathlib.Nat.{mul-suc, mul-zero}
+use native.Mathlib.Nat.{mul-suc}
 use Rattle.lxt_format.specs.Basics.{joined}
 use Rattle.lxt_format.specs.Bytes.{numberAt, u32At, numbersAt}
 use Rattle.lxt_chains.specs.Pending.{Each}
@@ -14,12 +14,6 @@ use Rattle.lxt_written.specs.WrittenFile.{words}
 use Rattle.lxt_written.specs.Stands.{Stands, stands-front, stands-back, stands-number, length-bigEndian}
 
 module _ {A : Type 0} (k : ℕ) (f : A → List ℕ) (size : (x : A) → length (f x) ≡ k) where
-  -- rows of k bytes are k bytes each long
-  pub length-rows : (xs : List A) → length (joined f xs) ≡ k * length xs
-  unfolding joined
-  length-rows [] = sym (mul-zero k)
-  length-rows (x ∷ xs) = omega (arith, length-append (f x) (joined f xs), size x, length-rows xs, mul-suc k (length xs))
-
   -- row i stands k bytes times i after the first
   pub stands-row : (s : List ℕ) (o : ℕ) (xs : List A) (d : A) → Stands s o (joined f xs) → (i : ℕ) → i < length xs → Stands s (o + k * i) (f (getD xs i d))
   unfolding joined
@@ -28,10 +22,6 @@ module _ {A : Type 0} (k : ℕ) (f : A → List ℕ) (size : (x : A) → length 
   stands-row s o (x ∷ xs) d h (suc i) l =
       let e : o + k * suc i ≡ o + length (f x) + k * i = omega (arith, mul-suc k i, size x) in
       rw e (stands-row s (o + length (f x)) xs d (stands-back s o (f x) (joined f xs) h) i (omega arith))
-
--- numbers of 4 bytes each
-pub length-words : (xs : List ℕ) → length (words xs) ≡ 4 * length xs
-length-words xs = length-rows 4 (bigEndian 4) (length-bigEndian 4) xs
 
 -- a number of 4 bytes is read as it was
 pub stands-u32 : (x : ℕ) (s : List ℕ) (o : ℕ) → Stands s o (bigEndian 4 x) → x < 4294967296 → u32At s o ≡ x

@@ -25,7 +25,8 @@ use Rattle.lxt_written.specs.WrittenFile.{words, entriesOf, deltasFrom, firstTi
 use Rattle.lxt_written.specs.Writing.{valueOfAllowed, changesAllowed}
 use Rattle.lxt_written.specs.Stands.{Stands, stands-front, stands-back}
 use Rattle.lxt_round_trip.specs.Steps.{ChangeTyped}
-use Rattle.lxt_round_trip.proofs.TableLaws.{length-words, stands-word, stands-words}
+use Rattle.lxt_written.specs.TableSizes.{length-words}
+use Rattle.lxt_round_trip.proofs.TableLaws.{stands-word, stands-words}
 use Rattle.lxt_round_trip.proofs.ListLaws.{each-at, each-image, each-source, any-none, getD-below}
 use Rattle.lxt_round_trip.proofs.AllowedLaws.{Kept}
 use Rattle.lxt_round_trip.proofs.LaidLaws.{laid-order, laid-within, laid-times}

@@ -6,3 +6,4 @@ pub mod RoundTrip
 pub mod WrittenExamples
 pub mod Stands
 pub mod CommandLaws
+pub mod TableSizes
