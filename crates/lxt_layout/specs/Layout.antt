@@ -32,13 +32,14 @@ pub record PlacesFor (z : Sizes) (p : Places) : Type 0 where
   pub end : p .end ≡ p .timescale + 2 + (if z .real then 8 else 0)
   pub length : p .length ≡ p .end + (if z .real then 42 else 37)
 
--- no section starts past the end
+-- no section starts past END, and END is in the file
 pub record Below (p : Places) : Type 0 where
   pub names : p .names ≤ p .end
   pub geometry : p .geometry ≤ p .end
   pub sync : p .sync ≤ p .end
   pub times : p .times ≤ p .end
   pub timescale : p .timescale + 2 ≤ p .end
+  pub end : p .end ≤ p .length
 
 -- the sections of one value: timescale, initial symbol, and the real test where a facility is a real
 unfoldable pub valuesSection : ℤ → ℕ → Bool → List ℕ
@@ -49,12 +50,14 @@ unfoldable pub itemsFrom : ℕ → List ℕ → List ℕ
 itemsFrom tag [] = []
 itemsFrom tag (v ∷ vs) = bigEndian 4 v ++ (tag ∷ itemsFrom (suc tag) vs)
 
+-- the values of the section list by rising tag: 01 is 4, and 08 is there where a facility is a real
+unfoldable pub itemValues : Places → Bool → List ℕ
+itemValues p real =
+    4 ∷ p .sync ∷ p .names ∷ p .geometry ∷ p .timescale ∷ p .times ∷ (p .timescale + 1) ∷ (if real then (p .timescale + 2) ∷ [] else [])
+
 -- END, the section list and the last byte
 unfoldable pub tailOf : Places → Bool → List ℕ
-tailOf p real =
-    0x00
-    ∷ (itemsFrom 1 (4 ∷ p .sync ∷ p .names ∷ p .geometry ∷ p .timescale ∷ p .times ∷ (p .timescale + 1) ∷ (if real then (p .timescale + 2) ∷ [] else []))
-    ++ (0xB4 ∷ []))
+tailOf p real = 0x00 ∷ (itemsFrom 1 (itemValues p real) ++ (0xB4 ∷ []))
 
 -- ---- the parts of the file of a trace
 

@@ -7,9 +7,10 @@ ghost use Prim.Native.Nat.{_+_, _*_, _≤_, _<_};
 ghost use lib.ListN.{length};
 ghost use Rattle.lxt_format.specs.Basics.{if_then_else_};
 ghost use Rattle.lxt_format.specs.Buffers.{placed};
+ghost use Rattle.lxt_format.specs.Reals.{testPattern};
 ghost use Rattle.lxt_format.specs.Sections.{timescaleAllowed};
 ghost use Rattle.lxt_written.specs.WrittenFile.{header, words, signedByte};
-ghost use Rattle.lxt_layout.specs.Layout.{Bounded, PlacesFor, Below, itemsFrom, valuesSection, tailOf};
+ghost use Rattle.lxt_layout.specs.Layout.{Bounded, PlacesFor, Below, itemsFrom, valuesSection, itemValues, tailOf};
 use lxt_pack::put;
 
 // What the places depend on: the number of facilities, the bytes of all names, the offset after the last
@@ -35,7 +36,7 @@ pub struct Places {
 
 // The bytes of the real test, where there is one, and of END, the section list and the last byte.
 fn test_size(real: bool) -> usize
-    ensures { λ r. ⌜ r ≡ (if real then 8 else 0) ⌝ }
+    ensures { λ r. ⌜ (r ≡ (if real then 8 else 0)) × (r ≤ 8) ⌝ }
 {
     if real {
         return 8;
@@ -44,7 +45,7 @@ fn test_size(real: bool) -> usize
 }
 
 fn tail_size(real: bool) -> usize
-    ensures { λ r. ⌜ r ≡ (if real then 42 else 37) ⌝ }
+    ensures { λ r. ⌜ (r ≡ (if real then 42 else 37)) × (r ≤ 42) ⌝ }
 {
     if real {
         return 42;
@@ -120,16 +121,32 @@ fn signed_byte(timescale: i8) -> u8
     timescale as u8
 }
 
+// The real test.
+fn put_test(out: &mut [u8], at: usize)
+    requires { ⌜ at + 8 ≤ length (now out) ⌝ }
+    ensures { λ _. ⌜ now (out .exit) ≡ placed (now (out .entry)) at testPattern ⌝ }
+{
+    put::four(out, at, 0x6E86_1BF0);
+    put::four(out, at + 4, 0xF921_0940);
+}
+
+// The timescale and the initial symbol.
+fn put_pair(out: &mut [u8], at: usize, timescale: i8, initial: u8)
+    requires { ⌜ at + 2 ≤ length (now out) ⌝ }
+    ensures { λ _. ⌜ now (out .exit) ≡ placed (now (out .entry)) at (signedByte timescale ∷ initial ∷ []) ⌝ }
+{
+    put::one(out, at, signed_byte(timescale) as u32);
+    put::one(out, at + 1, initial as u32);
+}
+
 // The timescale, the initial symbol, and where a facility is a real the real test.
 pub fn put_values(out: &mut [u8], at: usize, timescale: i8, initial: u8, real: bool)
     requires { ⌜ at + 2 + (if real then 8 else 0) ≤ length (now out) ⌝ }
     ensures { λ _. ⌜ now (out .exit) ≡ placed (now (out .entry)) at (valuesSection timescale initial real) ⌝ }
 {
-    put::one(out, at, signed_byte(timescale) as u32);
-    put::one(out, at + 1, initial as u32);
+    put_pair(out, at, timescale, initial);
     if real {
-        put::four(out, at + 2, 0x6E86_1BF0);
-        put::four(out, at + 6, 0xF921_0940);
+        put_test(out, at + 2);
     }
 }
 
@@ -154,13 +171,21 @@ fn put_items(out: &mut [u8], at: usize, values: &[u32])
     }
 }
 
-// END, the section list and the last byte.
-pub fn put_tail(out: &mut [u8], p: Places, real: bool)
-    requires { ⌜ (p .end + (if real then 42 else 37) ≤ length (now out)) × (p .length < 4294967296) × Below p ⌝ }
-    ensures { λ _. ⌜ now (out .exit) ≡ placed (now (out .entry)) (p .end) (tailOf p real) ⌝ }
+// How many items the section list has.
+fn item_count(real: bool) -> usize
+    ensures { λ r. ⌜ (r ≡ (if real then 8 else 7)) × (r ≤ 8) ⌝ }
 {
-    let end = p.end;
-    put::one(out, end, 0);
+    if real {
+        return 8;
+    }
+    7
+}
+
+// The section list.
+fn put_list(out: &mut [u8], at: usize, p: Places, real: bool)
+    requires { ⌜ (at + (if real then 40 else 35) ≤ length (now out)) × (p .length < 4294967296) × Below p ⌝ }
+    ensures { λ _. ⌜ now (out .exit) ≡ placed (now (out .entry)) at (itemsFrom 1 (itemValues p real)) ⌝ }
+{
     let values = [
         4,
         p.sync as u32,
@@ -171,7 +196,18 @@ pub fn put_tail(out: &mut [u8], p: Places, real: bool)
         (p.timescale + 1) as u32,
         (p.timescale + 2) as u32,
     ];
-    let count: usize = if real { 8 } else { 7 };
-    put_items(out, end + 1, &values[..count]);
-    put::one(out, end + 1 + 5 * count, 0xB4);
+    let count = item_count(real);
+    put_items(out, at, &values[..count]);
+}
+
+// END, the section list and the last byte.
+pub fn put_tail(out: &mut [u8], p: Places, real: bool)
+    requires { ⌜ (p .end + (if real then 42 else 37) ≤ length (now out)) × (p .length < 4294967296) × Below p ⌝ }
+    ensures { λ _. ⌜ now (out .exit) ≡ placed (now (out .entry)) (p .end) (tailOf p real) ⌝ }
+{
+    let end = p.end;
+    let last = end + 1 + 5 * item_count(real);
+    put::one(out, end, 0);
+    put_list(out, end + 1, p, real);
+    put::one(out, last, 0xB4);
 }

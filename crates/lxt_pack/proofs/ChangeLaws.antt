@@ -30,7 +30,8 @@ use Rattle.lxt_pack.proofs.SizeLaws.{bits-symbols, integer-command}
 pub delta-put : (out out′ : List ℕ) (at k j delta : ℕ) → k ≡ j → out′ ≡ placed out at (bigEndian j delta) → out′ ≡ placed out at (bigEndian k delta)
 delta-put out out′ at k j delta e h = rw e h
 
-one-byte : (x : ℕ) → x < 256 → bigEndian 1 x ≡ x ∷ []
+-- a number of one byte
+pub one-byte : (x : ℕ) → x < 256 → bigEndian 1 x ≡ x ∷ []
 unfolding bigEndian
 one-byte x h = let e : x / 1 % 256 ≡ x = omega arith in rw e
 
