@@ -1,2 +1,4 @@
 pub mod RowLaws
 pub mod MeasureLaws
+pub mod EntryLaws
+pub mod WriteLaws

@@ -1,0 +1,293 @@
+-- Laws of the second pass over the changes.
+use Prim.Native.Nat.{ℕ, zero, suc, _+_, _*_, _-_, _≤_, _<_}
+use native.Mathlib.Omega.{arith}
+use native.Mathlib.Nat.{add-zero}
+use mathlib.Core.Path.{_≡_, refl, sym, ap, _∙_}
+use mathlib.Core.Bool.{Bool, true, false, _&&_}
+use mathlib.Core.List.{List, [], _∷_, _++_, map, reverse, reverseAux, append-assoc, append-nil}
+use lib.ListN.{length, getD, drop, set, length-append, length-map}
+use lib.Seq.{slice}
+use lib.Dec.{leb, ltb, eqb}
+use borrow.Author.Tests.{leb-true, ltb-true}
+use Rattle.lxt_format.specs.Limits.{longestFile, widestFacility}
+use Rattle.lxt_format.specs.Basics.{all, joined}
+use Rattle.lxt_format.specs.BasicsLaws.{and-both}
+use Rattle.lxt_format.specs.Buffers.{placed, length-placed}
+use Rattle.lxt_format.specs.Geometry.{factsBy}
+use Rattle.lxt_format.specs.declared.Kind.{Kind}
+use Rattle.lxt_format.specs.declared.Pair.{Pair}
+use Rattle.lxt_written.specs.Input.{part, kindOfCode, facilityOf, changeOf, changeRowAllowed}
+use Rattle.lxt_written.specs.WrittenChanges.{changeBytes, numbered, lastOf, Laid, pairOf, layAt, layFrom}
+use Rattle.lxt_written.specs.WrittenFile.{words, deltasFrom, entriesOf}
+use Rattle.lxt_written.specs.Writing.{factsFor, valueAllowed, valueOfAllowed, changesAllowed}
+use Rattle.lxt_written.specs.Stands.{Stands}
+use Rattle.lxt_written.specs.TableSizes.{length-words, length-deltas}
+use Rattle.lxt_pack.specs.Change.{Part, Sound, Puts}
+use Rattle.lxt_layout.proofs.PlacedLaws.{placed-stands, placed-below, placed-above, placed-tail, stands-join-at}
+use Rattle.lxt_writer.specs.declared.changes.Entry.{Entry}
+use Rattle.lxt_writer.specs.Changes.{nameless, layRows, endFrom, soundFrom, Laying, rowAllowed, rowBytes, isNew, entriesLeft, EntryAsked, EntryPut, RowAsked, RowPut, positionsOf, timesOf, PutAsked, ChangesPut, EntriesPut, Writing}
+use Rattle.lxt_writer.proofs.RowLaws.{numbered-row, width-known, row-known, row-laid, row-long, row-newest}
+use Rattle.lxt_writer.proofs.MeasureLaws.{row-next, row-none, laidAt, lay-next, sound-next, entries-none}
+use Rattle.lxt_writer.proofs.EntryLaws.{entry-time, entry-behind, entry-room, entries-turn, entry-long, entry-below, entry-tail, entries-kept}
+
+-- ---- one row
+
+module _ (rows : List (List ℕ)) (row values last out : List ℕ) (o : ℕ) (a : RowAsked rows row values last out o) where
+  -- its facility is one, and its part lies in the pool
+  pub asked-known : getD row 0 0 < length rows
+  unfolding rowAllowed valueOfAllowed
+  asked-known =
+      let n = length-map rows (facilityOf []) in
+      let y = and-both (ltb (getD row 0 0) (length (nameless rows))) _ (and-both (changeRowAllowed values row) _ (a .allowed) .1) .0 in
+      omega (arith, ltb-true (getD row 0 0) (length (nameless rows)) y)
+
+  pub asked-inside : getD row 2 0 + getD row 3 0 ≤ length values
+  unfolding rowAllowed changeRowAllowed
+  asked-inside = leb-true _ _ (and-both (leb (getD row 2 0 + getD row 3 0) (length values)) _ (a .allowed) .0)
+
+  -- its change can be put
+  pub asked-sound : (kind : Kind) (delta : ℕ) → kind ≡ kindOfCode (getD (getD rows (getD row 0 0) []) 2 0) → delta ≡ o - getD last (getD row 0 0) 0 - 2
+      → getD row 3 0 < 4294967296 → Sound kind values (getD row 2 0) (getD row 2 0 + getD row 3 0) delta out o
+  unfolding rowAllowed valueOfAllowed rowBytes part factsFor facilityOf
+  asked-sound kind delta ek ed small =
+      let facility : List ℕ = getD rows (getD row 0 0) [] in
+      let value = and-both (ltb (getD row 0 0) (length (nameless rows))) _ (and-both (changeRowAllowed values row) _ (a .allowed) .1) .1 in
+      record {
+        part = record { upto = omega arith; within = asked-inside; size = omega arith };
+        width = factsBy kind (getD facility 3 0) (getD facility 4 0) .width;
+        wide = width-known facility kind _ ek refl (a .widths (getD row 0 0) asked-known);
+        allowed = rw ek (rw (numbered-row rows (getD row 0 0) asked-known) at value);
+        room = rw (ek, ed) (a .room);
+      }
+
+  pub row-put : (kind : Kind) (delta : ℕ) (out′ : List ℕ) (r : ℕ) → kind ≡ kindOfCode (getD (getD rows (getD row 0 0) []) 2 0) → delta ≡ o - getD last (getD row 0 0) 0 - 2
+      → Puts kind (slice (getD row 2 0) (getD row 2 0 + getD row 3 0) values) delta out o out′ r → RowPut (rowBytes rows row values last o) out o out′ r
+  unfolding rowBytes part
+  row-put kind delta out′ r ek ed p = record { puts = p .puts ∙ rw (ek, ed); ends = p .ends ∙ rw (ek, ed) }
+
+-- ---- the pass
+
+-- no bytes stand everywhere
+stands-none : (s : List ℕ) (o : ℕ) → o ≤ length s → Stands s o []
+stands-none s o h = record { within = omega arith; same = λ i k. absurd (omega arith) }
+
+module _ (rows changes : List (List ℕ)) (values last out : List ℕ) (positions gap : ℕ) (a : PutAsked rows changes values last out positions gap) where
+  whole : List Laid
+  whole = layRows rows values 4 [] changes
+
+  column-long : (g : Laid → ℕ) → gap ≡ length (words (deltasFrom 0 (map g (entriesOf whole))))
+  unfolding whole
+  column-long g =
+      let e = length-words (deltasFrom 0 (map g (entriesOf (layRows rows values 4 [] changes)))) in
+      let d = length-deltas 0 (map g (entriesOf (layRows rows values 4 [] changes))) in
+      let m = length-map (entriesOf (layRows rows values 4 [] changes)) g in
+      omega (arith, a .column)
+
+  pub writing-begun : Writing rows changes values out positions gap 0 4 (record { at = positions; position = 0; time = 0 }) last out
+  unfolding entriesLeft lastOf
+  writing-begun =
+      let room = a .room in
+      let after = a .after in
+      record {
+        before = [];
+        done = [];
+        laying =
+            record {
+              free = record { long = a .fresh .long; below = λ f. let z = a .fresh .none f in omega arith; most = omega arith };
+              newest = λ f h. a .fresh .none f;
+            };
+        upto = omega arith;
+        from = omega arith;
+        behind = omega arith;
+        sound = a .sound;
+        pairs = refl;
+        bytes = refl;
+        place = refl;
+        stands = stands-none out 4 (omega arith);
+        entries =
+            record {
+              put-positions = [];
+              put-times = [];
+              positions-left = refl;
+              times-left = refl;
+              alike = refl;
+              place = sym (add-zero positions);
+              positions-stand = stands-none out positions (omega arith);
+              times-stand = stands-none out (positions + gap) (omega arith);
+            };
+        long = refl;
+        tail = λ k h. refl;
+      }
+
+  module _ (i o : ℕ) (e : Entry) (last′ out′ : List ℕ) (w : Writing rows changes values out positions gap i o e last′ out′) where
+    module _ (h : i < length changes) where
+      row : List ℕ
+      row = getD changes i []
+
+      step : Laid
+      step = laidAt rows values o (w .before) row
+
+      later : List Laid
+      later = layRows rows values (o + length (step .bytes)) (pairOf step ∷ w .before) (drop (i + 1) changes)
+
+      -- the change of the row, and those after it
+      left-here : layRows rows values o (w .before) (drop i changes) ≡ step ∷ later
+      unfolding row step later
+      left-here = rw (row-next changes i h) (lay-next rows values o (w .before) (getD changes i []) (drop (i + 1) changes))
+
+      -- all are allowed
+      here-sound : (e .time ≤ getD (getD changes i []) 1 0)
+          × (rowAllowed rows (getD changes i []) values ≡ true)
+          × (soundFrom rows values (o + length (step .bytes)) (pairOf step ∷ w .before) (getD (getD changes i []) 1 0) (drop (i + 1) changes) ≡ true)
+      unfolding row step
+      here-sound =
+          let r : List ℕ = getD changes i [] in
+          let s = rw (row-next changes i h, sound-next rows values o (w .before) r (drop (i + 1) changes) (e .time)) at (w .sound) in
+          let both = and-both (leb (e .time) (getD r 1 0) && rowAllowed rows r values) _ s in
+          let first = and-both (leb (e .time) (getD r 1 0)) (rowAllowed rows r values) (both .0) in
+          (leb-true (e .time) (getD r 1 0) (first .0), first .1, both .1)
+
+      bytes-are : step .bytes ≡ rowBytes rows (getD changes i []) values last′ o
+      unfolding row step
+      bytes-are = row-laid rows (getD changes i []) values last′ (w .before) o (w .laying) (here-sound .1)
+
+      -- they end below the columns, and within the longest file
+      step-room : o + length (step .bytes) ≤ positions
+      unfolding joined
+      step-room =
+          let l = ap length (w .bytes ∙ ap (λ x. w .done ++ joined (λ y. y .bytes) x) left-here) in
+          let m = length-append (w .done) (step .bytes ++ joined (λ y. y .bytes) later) in
+          let n = length-append (step .bytes) (joined (λ y. y .bytes) later) in
+          let after = a .after in
+          omega (arith, w .place)
+
+      step-short : o + length (step .bytes) ≤ longestFile
+      unfolding soundFrom
+      step-short =
+          let rest : List (List ℕ) = drop (i + 1) changes in
+          let s = and-both (all (changeRowAllowed values) rest) _ (here-sound .2) .1 in
+          let l = and-both (changesAllowed (nameless rows) (getD (getD changes i []) 1 0) (map (changeOf values) rest)) _ s .1 in
+          omega (arith, leb-true (endFrom rows values (o + length (step .bytes)) (pairOf step ∷ w .before) rest) longestFile l)
+
+      entries-here : EntriesPut
+          (positionsOf 0 (entriesOf whole))
+          (timesOf 0 (entriesOf whole))
+          (entriesLeft o (e .time) (step ∷ later))
+          positions
+          gap
+          e
+          out′
+      unfolding whole
+      entries-here = rw left-here at (w .entries)
+
+      step-at : step .offset ≡ o
+      unfolding step layAt
+      step-at = refl
+
+      step-time : step .time ≡ getD (getD changes i []) 1 0
+      unfolding row step layAt changeOf
+      step-time = refl
+
+      room-here : positions + gap + gap ≤ length out′
+      room-here = omega (arith, a .room, w .long)
+
+      -- the entry of the change can be put
+      pub entry-asked : EntryAsked out′ e gap o (getD (getD changes i []) 1 0)
+      entry-asked =
+          let room = room-here in
+          let place = w .entries .place in
+          let fits : isNew o (e .time) (getD (getD changes i []) 1 0) ≡ true → e .at + 4 ≤ positions + gap = λ y.
+          entry-room _ _ positions gap (column-long (λ l. l .offset)) (column-long (λ l. l .time)) o step later step-at e out′ entries-here room (rw step-time y) in
+          record {
+            apart = λ y. let f = fits y in omega arith;
+            room = λ y. let f = fits y in omega arith;
+            behind = w .behind;
+            most = w .laying .free .most;
+            rises = here-sound .0;
+          }
+
+      module _ (one : List ℕ) (e₁ : Entry) (put : EntryPut out′ e gap o (getD (getD changes i []) 1 0) one e₁) where
+        put-here : EntryPut out′ e gap o (step .time) one e₁
+        put-here = rw step-time put
+
+        above : 4 < o + length (step .bytes)
+        above =
+            let some = row-long rows (getD changes i []) values last′ (w .before) o (w .laying) (here-sound .1) in
+            let b = ap length bytes-are in
+            omega (arith, w .from)
+
+        one-long : length one ≡ length out′
+        one-long =
+            entry-long _ _ positions gap (column-long (λ l. l .offset)) (column-long (λ l. l .time)) o step later step-at e out′ entries-here room-here one e₁ put-here
+            (o + length (step .bytes)) above
+
+        -- the change can be put
+        pub row-asked : RowAsked rows (getD changes i []) values last′ one o
+        row-asked =
+            let l = one-long in
+            let room = step-room in
+            let b = ap length bytes-are in
+            let r = room-here in
+            record { widths = a .widths; free = w .laying .free; allowed = here-sound .1; room = omega arith }
+
+        -- both are put
+        pub writing-turn : (two : List ℕ) (r f : ℕ) → RowPut (rowBytes rows (getD changes i []) values last′ o) one o two r → f ≡ getD (getD changes i []) 0 0
+            → Writing rows changes values out positions gap (i + 1) r e₁ (set last′ f o) two
+        unfolding row step later joined whole
+        writing-turn two r f p ef =
+            let rest : List (List ℕ) = drop (i + 1) changes in
+            let t : ℕ = getD (getD changes i []) 1 0 in
+            let bytes : List ℕ = step .bytes in
+            let room = step-room in
+            let some = row-long rows (getD changes i []) values last′ (w .before) o (w .laying) (here-sound .1) in
+            let b = ap length bytes-are in
+            let ends : o + length bytes ≡ r = ap (λ k. o + k) b ∙ sym (p .ends) in
+            let puts : two ≡ placed one o bytes = p .puts ∙ rw (← bytes-are) in
+            let time : e₁ .time ≡ t = entry-time out′ e gap o t one e₁ put in
+            let long = one-long in
+            let fits = room-here in
+            let wide : o + length bytes ≤ length one = omega arith in
+            let n = length-append (w .done) bytes in
+            let turned = entries-turn _ _ positions gap (column-long (λ l. l .offset)) (column-long (λ l. l .time)) o step later step-at e out′ entries-here room-here one e₁ put-here (o + length bytes) above in
+            let kept : Stands one 4 (w .done) =
+            entry-below _ _ positions gap (column-long (λ l. l .offset)) (column-long (λ l. l .time)) o step later step-at e out′ entries-here room-here one e₁ put-here (o + length bytes) above
+            4 (w .done) (w .stands) (omega (arith, w .place)) in
+            record {
+              before = pairOf step ∷ w .before;
+              done = w .done ++ bytes;
+              laying = rw (ef, ← ends) (row-newest rows (getD changes i []) values last′ (w .before) o (w .laying) (here-sound .1) (length bytes) (omega arith) step-short);
+              upto = omega arith;
+              from = omega (arith, w .from);
+              behind = omega (arith, entry-behind out′ e gap o t one e₁ put (w .behind));
+              sound = rw (time, ← ends) (here-sound .2);
+              pairs = rw (← ends) (w .pairs ∙ ap (λ x. reverseAux (map pairOf x) (w .before)) left-here);
+              bytes = rw (← ends) (w .bytes ∙ ap (λ x. w .done ++ joined (λ y. y .bytes) x) left-here ∙ sym (append-assoc (w .done) bytes (joined (λ y. y .bytes) later)));
+              place = omega (arith, w .place);
+              stands =
+                  rw puts
+                  (stands-join-at (placed one o bytes) 4 (w .done) bytes
+                  (placed-below one o bytes wide 4 (w .done) kept (omega (arith, w .place)))
+                  o
+                  (w .place)
+                  (placed-stands one o bytes wide));
+              entries = rw (puts, time, ← ends) (entries-kept _ _ _ positions gap e₁ one o bytes (rw step-time at turned) room);
+              long = rw puts (length-placed one o bytes wide ∙ long ∙ w .long);
+              tail = λ k q.
+                  rw puts (placed-tail one o bytes wide k (omega arith))
+                  ∙ entry-tail _ _ positions gap (column-long (λ l. l .offset)) (column-long (λ l. l .time)) o step later step-at e out′ entries-here room-here one e₁ put-here (o + length bytes) above k q
+                  ∙ w .tail k q;
+            }
+
+    -- all are put
+    pub writing-ended : length changes ≤ i → ChangesPut rows changes values out positions gap last′ out′
+    unfolding layFrom joined deltasFrom
+    writing-ended h =
+        let none : drop i changes ≡ [] = row-none changes i (w .upto) h in
+        record {
+          bytes = rw (w .bytes ∙ rw none (append-nil (w .done))) (w .stands);
+          positions-stand = rw (w .entries .positions-left ∙ rw (none, entries-none o (e .time)) (append-nil (w .entries .put-positions))) (w .entries .positions-stand);
+          times-stand = rw (w .entries .times-left ∙ rw (none, entries-none o (e .time)) (append-nil (w .entries .put-times))) (w .entries .times-stand);
+          newest = λ f k. w .laying .newest f k ∙ sym (ap (lastOf f) (w .pairs ∙ rw none));
+          long = w .long;
+          tail = w .tail;
+        }
