@@ -170,6 +170,11 @@ module _ (b : List ℕ) (at : ℕ) (vs b′ : List ℕ) (i : ℕ) (w : Listing b
 abbrev eight : Places → List ℕ
 eight p = 4 ∷ p .sync ∷ p .names ∷ p .geometry ∷ p .timescale ∷ p .times ∷ (p .timescale + 1) ∷ (p .timescale + 2) ∷ []
 
+-- the bytes of n items
+pub five-each : (real : Bool) (n : ℕ) → n ≡ (if real then 8 else 7) → (5 * n ≡ (if real then 40 else 35)) × (5 * n + 2 ≡ (if real then 42 else 37))
+five-each true n e = (omega arith, omega arith)
+five-each false n e = (omega arith, omega arith)
+
 module _ (p : Places) where
   -- the first n of them are those of the list
   values-taken : (real : Bool) (n : ℕ) → n ≡ (if real then 8 else 7) → take n (eight p) ≡ itemValues p real
@@ -184,11 +189,6 @@ module _ (p : Places) where
 
   pub values-long : (n : ℕ) → n ≤ 8 → n ≡ length (take n (eight p))
   values-long n h = sym (length-take-le n (eight p) h)
-
-  -- the bytes of n items
-  five-each : (real : Bool) (n : ℕ) → n ≡ (if real then 8 else 7) → (5 * n ≡ (if real then 40 else 35)) × (5 * n + 2 ≡ (if real then 42 else 37))
-  five-each true n e = (omega arith, omega arith)
-  five-each false n e = (omega arith, omega arith)
 
   module _ (b : List ℕ) (at : ℕ) (real : Bool) (n : ℕ) (e : n ≡ (if real then 8 else 7)) (few : n ≤ 8) where
     pub list-room : at + (if real then 40 else 35) ≤ length b → (at + 5 * length (take n (eight p)) ≤ length b) × (length (take n (eight p)) ≤ 8)

@@ -2,7 +2,7 @@
 use Prim.Native.Nat.{ℕ, _+_, _-_, _≤_, _<_}
 use native.Mathlib.Nat.{zero-add}
 use native.Mathlib.Omega.{arith}
-use mathlib.Core.Path.{_≡_, refl, sym, ap, _∙_}
+use mathlib.Core.Path.{_≡_, sym, ap, _∙_}
 use mathlib.Core.List.{List, _++_, append-assoc}
 use lib.ListN.{length, getD, take, drop, length-append, take-append-drop, List·getD-append}
 use native.Mathlib.Decide.{decLe}
@@ -81,9 +81,9 @@ module _ (s : List ℕ) (o : ℕ) (xs ys : List ℕ) (h : Stands s o xs) where
         within = omega arith;
         same = λ i l. elim (decLe (length xs) i) [
           | yes a ↦ (let j : ℕ = i - length xs in
-            let p : length xs + j ≡ i = omega arith in
-            let q : o + length xs + j ≡ o + i = omega arith in
-            sym (ap (λ m. getD s m 0) q) ∙ k .same j (omega arith) ∙ sym (getD-append-add xs ys j 0) ∙ ap (λ m. getD (xs ++ ys) m 0) p)
+              let p : length xs + j ≡ i = omega arith in
+              let q : o + length xs + j ≡ o + i = omega arith in
+              sym (ap (λ m. getD s m 0) q) ∙ k .same j (omega arith) ∙ sym (getD-append-add xs ys j 0) ∙ ap (λ m. getD (xs ++ ys) m 0) p)
           | no a ↦ (let b : i < length xs = omega arith in h .same i b ∙ sym (List·getD-append xs ys 0 i b))
         ];
       }
