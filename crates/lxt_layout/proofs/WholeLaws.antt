@@ -4,11 +4,12 @@ use native.Mathlib.Omega.{arith}
 use mathlib.Core.Path.{_≡_, refl, _∙_}
 use mathlib.Core.Bool.{Bool, true, false}
 use mathlib.Core.List.{List, [], _∷_, _++_, map, append-assoc}
-use lib.ListN.{length, length-append, length-map}
+use lib.ListN.{length, drop, length-append, length-map}
 use lib.IntN.{ℤ}
 use borrow.Author.Tests.{ne-eqb}
 use Rattle.lxt_format.specs.Basics.{if_then_else_, range, joined}
 use Rattle.lxt_format.specs.BasicsLaws.{on-test}
+use Rattle.lxt_format.specs.Columns.{onto}
 use Rattle.lxt_format.specs.Sections.{valueIn}
 use Rattle.lxt_format.specs.Names.{memoryOf}
 use Rattle.lxt_written.specs.Input.{Trace}
@@ -22,7 +23,7 @@ use Rattle.lxt_layout.specs.declared.Sizes.{Sizes}
 use Rattle.lxt_layout.specs.declared.Places.{Places}
 use Rattle.lxt_layout.specs.Layout.{Bounded, PlacesFor, Below, valuesSection, itemsFrom, itemValues, tailOf, Measures, Parts}
 use Rattle.lxt_layout.proofs.LayoutLaws.{length-items, length-values, five-each}
-use Rattle.lxt_layout.proofs.PlacedLaws.{stands-join-at}
+use Rattle.lxt_layout.proofs.PlacedLaws.{stands-join-at, onto-whole}
 
 -- ---- bounds of the places
 
@@ -177,8 +178,8 @@ module _ (t : Trace) (z : Sizes) (p : Places) (m : Measures t z) (q : PlacesFor 
     names-stand : Stands s (p .names) (namesBody t)
     unfolding namesBody
     names-stand =
-        let head : List ℕ = words (length (t .facilities) ∷ memoryOf (namesOf t) ∷ []) in
-        stands-join-at s (p .names) head (namesFrom [] (namesOf t)) (h .names-head) (p .names + 8) (omega (arith, length-words (length (t .facilities) ∷ memoryOf (namesOf t) ∷ []))) (h .names)
+        let head : List ℕ = length (t .facilities) ∷ memoryOf (namesOf t) ∷ [] in
+        stands-join-at s (p .names) (words head) (namesFrom [] (namesOf t)) (h .names-head) (p .names + 8) (omega (arith, length-words head)) (h .names)
 
     times-stand : Stands s (p .times) (timesBody t)
     unfolding timesBody
@@ -198,3 +199,7 @@ module _ (t : Trace) (z : Sizes) (p : Places) (m : Measures t z) (q : PlacesFor 
         let names = stands-join-at s (p .names) (namesBody t) _ names-stand (p .geometry) (f .geometry) geometry in
         let changes = stands-join-at s 4 (changesBytes t) _ (h .changes) (p .names) (f .names) names in
         rw file-is (stands-join-at s 0 header _ (h .header) 4 refl changes)
+
+    -- and where nothing behind the file has changed, the file stands before what was there
+    pub file-onto : (out : List ℕ) → drop (p .length) s ≡ drop (p .length) out → s ≡ onto (fileOf t) out
+    file-onto out e = onto-whole s (fileOf t) out file-stands (rw file-long at e)
