@@ -118,11 +118,12 @@ unfolding itemsFrom
 item-put b c d at v tag h l first second =
     put-then b c d at 4 (bigEndian 4 v) (tag ∷ []) (length-bigEndian 4 v) (omega arith) first (second ∙ rw (one-byte tag l))
 
--- an item is 5 bytes long
+-- the first item, and the others
 items-first : (tag v : ℕ) (vs : List ℕ) → itemsFrom tag (v ∷ vs) ≡ itemsFrom tag (v ∷ []) ++ itemsFrom (suc tag) vs
 unfolding itemsFrom bigEndian
 items-first tag v vs = refl
 
+-- an item is 5 bytes long
 pub length-items : (tag : ℕ) (vs : List ℕ) → length (itemsFrom tag vs) ≡ 5 * length vs
 unfolding itemsFrom bigEndian
 length-items tag [] = refl
@@ -170,6 +171,11 @@ module _ (b : List ℕ) (at : ℕ) (vs b′ : List ℕ) (i : ℕ) (w : Listing b
 abbrev eight : Places → List ℕ
 eight p = 4 ∷ p .sync ∷ p .names ∷ p .geometry ∷ p .timescale ∷ p .times ∷ (p .timescale + 1) ∷ (p .timescale + 2) ∷ []
 
+-- the bytes of n items, and with END and the last byte
+pub five-each : (real : Bool) (n : ℕ) → n ≡ (if real then 8 else 7) → (5 * n ≡ (if real then 40 else 35)) × (5 * n + 2 ≡ (if real then 42 else 37))
+five-each true n e = (omega arith, omega arith)
+five-each false n e = (omega arith, omega arith)
+
 module _ (p : Places) where
   -- the first n of them are those of the list
   values-taken : (real : Bool) (n : ℕ) → n ≡ (if real then 8 else 7) → take n (eight p) ≡ itemValues p real
@@ -177,18 +183,15 @@ module _ (p : Places) where
   values-taken true n e = rw e
   values-taken false n e = rw e
 
+  -- there are 8 or 7
   pub length-values : (real : Bool) → length (itemValues p real) ≡ (if real then 8 else 7)
   unfolding itemValues
   length-values true = refl
   length-values false = refl
 
+  -- n of the 8 are n
   pub values-long : (n : ℕ) → n ≤ 8 → n ≡ length (take n (eight p))
   values-long n h = sym (length-take-le n (eight p) h)
-
-  -- the bytes of n items
-  five-each : (real : Bool) (n : ℕ) → n ≡ (if real then 8 else 7) → (5 * n ≡ (if real then 40 else 35)) × (5 * n + 2 ≡ (if real then 42 else 37))
-  five-each true n e = (omega arith, omega arith)
-  five-each false n e = (omega arith, omega arith)
 
   module _ (b : List ℕ) (at : ℕ) (real : Bool) (n : ℕ) (e : n ≡ (if real then 8 else 7)) (few : n ≤ 8) where
     pub list-room : at + (if real then 40 else 35) ≤ length b → (at + 5 * length (take n (eight p)) ≤ length b) × (length (take n (eight p)) ≤ 8)

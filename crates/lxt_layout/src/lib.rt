@@ -1,8 +1,7 @@
 // Where the parts of a written file stand, and the parts that are no table of rows: the header, the heads of
 // the names and of the times, the sections of one value, END, the section list and the last byte.
 ghost use mathlib.Core.Path.{_≡_};
-ghost use mathlib.Core.Bool.{Bool, true};
-ghost use mathlib.Core.List.{[], _∷_, _++_};
+ghost use mathlib.Core.List.{[], _∷_};
 ghost use Prim.Native.Nat.{_+_, _*_, _≤_, _<_};
 ghost use lib.ListN.{length};
 ghost use Rattle.lxt_format.specs.Basics.{if_then_else_};

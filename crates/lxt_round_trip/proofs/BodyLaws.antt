@@ -1,56 +1,21 @@
 -- Where each section of a written file starts, and that its body stands there.
 use Prim.Native.Nat.{ℕ, _+_, _≤_, _<_}
-use mathlib.Core.Path.{_≡_, refl, ap, _∙_}
+use mathlib.Core.Path.{_≡_, ap, _∙_}
 use mathlib.Core.Bool.{true}
 use mathlib.Core.List.{List, [], _∷_, _++_}
 use lib.ListN.{length, length-append}
 use native.Mathlib.Omega.{arith}
 use Rattle.lxt_format.specs.Limits.{longestFile}
-use Rattle.lxt_format.specs.Basics.{if_then_else_, joined}
-use Rattle.lxt_format.specs.BasicsLaws.{on-test}
+use Rattle.lxt_format.specs.Basics.{joined}
 use Rattle.lxt_format.specs.Bytes.{byteAt}
 use Rattle.lxt_format.specs.Sections.{valueIn, sectionOf, endOf}
 use Rattle.lxt_format.specs.Reals.{testPattern}
 use Rattle.lxt_written.specs.Input.{Trace}
-use Rattle.lxt_written.specs.WrittenFile.{namesBody, geometryBody, syncBody, timesBody, signedByte, anyReal, sectionsOf, placesFrom, placesOf}
+use Rattle.lxt_written.specs.WrittenFile.{namesBody, geometryBody, syncBody, timesBody, signedByte, anyReal, sectionsOf, placesOf}
 use Rattle.lxt_written.specs.Stands.{Stands, stands-front, stands-back}
+use Rattle.lxt_written.specs.WrittenLaws.{testBody, sections-are, starts-are}
 use Rattle.lxt_round_trip.specs.Steps.{changesEnd}
 use Rattle.lxt_round_trip.proofs.SectionLaws.{Shape, stands-byte, list-ends, section-placed, section-absent}
-
--- the body of tag 08, where there is one
-abbrev pub testBody : Trace → List ℕ
-testBody t = if anyReal t then testPattern else []
-
--- the bodies one after the other
-sections-are : (t : Trace)
-    → joined (λ x. x .body) (sectionsOf t)
-    ≡ namesBody t ++ (geometryBody t ++ (syncBody t ++ (timesBody t ++ (signedByte (t .timescale) ∷ t .initial ∷ testBody t))))
-unfolding joined sectionsOf
-sections-are t = on-test (anyReal t) (λ e. rw e) (λ e. rw e)
-
--- where they start
-record Places (t : Trace) : Type 0 where
-  names : valueIn 0x03 (placesOf t) ≡ changesEnd t
-  geometry : valueIn 0x04 (placesOf t) ≡ changesEnd t + length (namesBody t)
-  sync : valueIn 0x02 (placesOf t) ≡ changesEnd t + length (namesBody t) + length (geometryBody t)
-  times : valueIn 0x06 (placesOf t) ≡ changesEnd t + length (namesBody t) + length (geometryBody t) + length (syncBody t)
-  timescale : valueIn 0x05 (placesOf t) ≡ changesEnd t + length (namesBody t) + length (geometryBody t) + length (syncBody t) + length (timesBody t)
-  initial : valueIn 0x07 (placesOf t) ≡ changesEnd t + length (namesBody t) + length (geometryBody t) + length (syncBody t) + length (timesBody t) + 1
-  test : anyReal t ≡ true → valueIn 0x08 (placesOf t) ≡ changesEnd t + length (namesBody t) + length (geometryBody t) + length (syncBody t) + length (timesBody t) + 1 + 1
-
--- each place is the length of what stands before it
-places-are : (t : Trace) → Places t
-unfolding valueIn placesOf placesFrom sectionsOf
-places-are t =
-    record {
-      names = refl;
-      geometry = refl;
-      sync = refl;
-      times = refl;
-      timescale = refl;
-      initial = refl;
-      test = λ e. rw e;
-    }
 
 -- each section starts where the one before it ends, and its body stands there
 pub record Bodies (t : Trace) (s : List ℕ) : Type 0 where
@@ -73,11 +38,6 @@ pub record Bodies (t : Trace) (s : List ℕ) : Type 0 where
   pub initial : byteAt s (sectionOf s 0x07) ≡ t .initial
   pub test : anyReal t ≡ true → Stands s (sectionOf s 0x08) testPattern
 
--- "C is 4"
-first-at : (t : Trace) → valueIn 0x01 (placesOf t) ≡ 4
-unfolding valueIn placesOf
-first-at t = refl
-
 -- where there is a real, the body of 08 is the pattern
 test-is : (t : Trace) → anyReal t ≡ true → testBody t ≡ testPattern
 test-is t e = rw e
@@ -86,7 +46,7 @@ module _ (t : Trace) (s : List ℕ) (h : Shape t s) (short : length s ≤ longes
   -- the bodies of a file of that shape stand where they start
   pub bodies : Bodies t s
   bodies =
-      let p = places-are t in
+      let p = starts-are t in
       let at : (tag : ℕ) → 0x01 ≤ tag → tag < 0x09 → sectionOf s tag ≡ valueIn tag (placesOf t) = λ tag a b. section-placed t s h short tag a b in
       let two = at 0x02 (omega arith) (omega arith) ∙ p .sync in
       let three = at 0x03 (omega arith) (omega arith) ∙ p .names in
@@ -108,7 +68,7 @@ module _ (t : Trace) (s : List ℕ) (h : Shape t s) (short : length s ≤ longes
       ap length e ∙ lengths (namesBody t) (geometryBody t) (syncBody t) (timesBody t) small ∙ omega arith in
       let T = list-ends t s h short .1 in
       record {
-        changes-at = at 0x01 (omega arith) (omega arith) ∙ first-at t;
+        changes-at = at 0x01 (omega arith) (omega arith) ∙ p .changes;
         names-at = three;
         geometry-at = omega arith;
         sync-at = omega arith;

@@ -17,7 +17,8 @@ use Rattle.lxt_written.specs.WrittenFile.{namesBody, geometryBody, syncBody, ti
 use Rattle.lxt_round_trip.specs.Steps.{changesEnd}
 use Rattle.lxt_round_trip.proofs.AllowedLaws.{Kept}
 use Rattle.lxt_round_trip.proofs.BodyLaws.{Bodies}
-use Rattle.lxt_round_trip.proofs.FrameLaws.{there, names-long, times-size, sync-size, geometry-size, small-size}
+use Rattle.lxt_written.specs.WrittenLaws.{names-long}
+use Rattle.lxt_round_trip.proofs.FrameLaws.{there, times-size, sync-size, geometry-size, small-size}
 use Rattle.lxt_round_trip.proofs.NameTableLaws.{names-bytes}
 
 -- a test that holds at a place holds of one

@@ -1,26 +1,25 @@
 -- A written file passes refusals 1 to 9, and its timescale and initial symbol are read back.
-use Prim.Native.Nat.{ℕ, suc, _+_, _*_, _-_, _≤_, _<_}
-use mathlib.Core.Path.{_≡_, refl, sym, ap, _∙_}
+use Prim.Native.Nat.{ℕ, _+_, _*_, _-_, _≤_, _<_}
+use mathlib.Core.Path.{_≡_, refl, sym}
 use mathlib.Core.Bool.{true, false, not}
-use mathlib.Core.List.{List, [], _∷_, _++_, map, reverse}
-use lib.ListN.{length, length-append, length-map}
+use mathlib.Core.List.{List}
+use lib.ListN.{length}
 use lib.IntN.{ℤ, pos, negsuc}
 use native.Mathlib.Omega.{arith}
 use borrow.Author.Tests.{eq-eqb, ne-eqb, le-leb, lt-ltb, le-ltb, leb-true}
 use Rattle.lxt_format.specs.Limits.{longestFile}
 use Rattle.lxt_format.specs.Basics.{range, all}
-use Rattle.lxt_format.specs.BasicsLaws.{length-range, both-and, or-true}
+use Rattle.lxt_format.specs.BasicsLaws.{both-and, or-true}
 use Rattle.lxt_format.specs.Bytes.{byteAt, u16At, u32At, signed}
 use Rattle.lxt_format.specs.BytesLaws.{u16-bytes}
 use Rattle.lxt_format.specs.Sections.{lengthAllowed, startsRight, endsRight, sectionOf, present, endOf, changesFrom}
 use Rattle.lxt_format.specs.Sections.{facilityCount, wideTimes, timesAt, timeCount, nothingCompressed, timesOnce, sectionsPresent}
 use Rattle.lxt_format.specs.Sections.{bodySize, bodyInside, bodiesInside, countAllowed, timescaleAllowed, timescaleOf, initialOf}
-use Rattle.lxt_format.specs.Names.{memoryOf}
 use Rattle.lxt_written.specs.Input.{Trace}
-use Rattle.lxt_written.specs.WrittenChanges.{bigEndian, lastOf, pairOf, laid}
-use Rattle.lxt_written.specs.WrittenFile.{words, namesFrom, namesOf, namesBody, geometryBytes, geometryBody, syncBody, entriesOf, deltasFrom, timesBody, signedByte}
-use Rattle.lxt_written.specs.Stands.{stands-front, length-bigEndian}
-use Rattle.lxt_written.specs.TableSizes.{length-rows, length-words, length-geometry}
+use Rattle.lxt_written.specs.WrittenChanges.{laid}
+use Rattle.lxt_written.specs.WrittenFile.{namesBody, geometryBody, syncBody, entriesOf, timesBody, signedByte}
+use Rattle.lxt_written.specs.Stands.{stands-front}
+use Rattle.lxt_written.specs.WrittenLaws.{geometry-long, sync-long, times-long, names-long}
 use Rattle.lxt_round_trip.proofs.TableLaws.{stands-word}
 use Rattle.lxt_round_trip.proofs.ListLaws.{any-none}
 use Rattle.lxt_round_trip.proofs.AllowedLaws.{Kept}
@@ -50,39 +49,6 @@ module _ (t : Trace) (s : List ℕ) (h : Shape t s) where
   pub ends-right : endsRight s ≡ true
   unfolding endsRight
   ends-right = eq-eqb (byteAt s (length s - 1)) 0xB4 (h .last)
-
--- ---- the lengths of the bodies
-
--- "16 bytes per facility"
-geometry-long : (t : Trace) → length (geometryBody t) ≡ 16 * length (t .facilities)
-unfolding geometryBody
-geometry-long t = length-rows 16 geometryBytes length-geometry (t .facilities)
-
--- "4 bytes per facility"
-sync-long : (t : Trace) → length (syncBody t) ≡ 4 * length (t .facilities)
-unfolding syncBody
-sync-long t =
-    length-rows 4 (λ f. bigEndian 4 (lastOf f (reverse (map pairOf (laid t))))) (λ f. length-bigEndian 4 _) (range 0 (length (t .facilities)))
-    ∙ rw (length-range 0 (length (t .facilities)))
-
--- there are as many deltas as numbers
-pub length-deltas : (before : ℕ) (xs : List ℕ) → length (deltasFrom before xs) ≡ length xs
-unfolding deltasFrom
-length-deltas before [] = refl
-length-deltas before (x ∷ xs) = ap suc (length-deltas x xs)
-
--- a table of three numbers and two columns of m
-table-long : (head ps ts : List ℕ) (m : ℕ) → length ps ≡ m → length ts ≡ m → length (words head ++ (words ps ++ words ts)) ≡ 4 * length head + 4 * m + 4 * m
-table-long head ps ts m p q =
-    omega (arith, length-append (words head) (words ps ++ words ts), length-append (words ps) (words ts), length-words head, length-words ps, length-words ts)
-
--- the table of times, of m entries
-times-long : (t : Trace) → length (timesBody t) ≡ 12 + 4 * length (entriesOf (laid t)) + 4 * length (entriesOf (laid t))
-unfolding timesBody
-times-long t =
-    let entries = entriesOf (laid t) in
-    table-long _ _ _ (length entries)
-    (length-deltas 0 _ ∙ length-map entries (λ l. l .offset)) (length-deltas 0 _ ∙ length-map entries (λ l. l .time))
 
 -- ---- what heads the names and the times
 
@@ -162,13 +128,6 @@ module _ (t : Trace) (s : List ℕ) (b : Bodies t s) where
       rw (there s 0x01 (omega arith), there s 0x02 (omega arith), there s 0x03 (omega arith), there s 0x04 (omega arith), there s 0x06 (omega arith))
 
 -- ---- 8
-
--- the names have a head of 8 bytes
-pub names-long : (t : Trace) → length (namesBody t) ≡ 8 + length (namesFrom [] (namesOf t))
-unfolding namesBody
-names-long t =
-    let head : List ℕ = length (t .facilities) ∷ memoryOf (namesOf t) ∷ [] in
-    omega (arith, length-append (words head) (namesFrom [] (namesOf t)), length-words head)
 
 -- a body that lies between offset 4 and T
 body-within : (s : List ℕ) (tag size : ℕ) → bodySize s tag ≡ size → 4 ≤ sectionOf s tag → sectionOf s tag + size ≤ endOf s → bodyInside s tag ≡ true

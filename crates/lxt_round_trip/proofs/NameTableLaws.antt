@@ -18,10 +18,11 @@ use Rattle.lxt_written.specs.WrittenChanges.{noFacility, numbered}
 use Rattle.lxt_written.specs.WrittenFile.{words, namesFrom, namesOf, namesBody}
 use Rattle.lxt_written.specs.Stands.{stands-front, stands-back}
 use Rattle.lxt_written.specs.TableSizes.{length-words}
+use Rattle.lxt_written.specs.WrittenLaws.{names-long}
 use Rattle.lxt_round_trip.proofs.TableLaws.{stands-word, slice-front}
 use Rattle.lxt_round_trip.proofs.AllowedLaws.{FacilityKept, Kept}
 use Rattle.lxt_round_trip.proofs.BodyLaws.{Bodies}
-use Rattle.lxt_round_trip.proofs.FrameLaws.{count-read, names-long}
+use Rattle.lxt_round_trip.proofs.FrameLaws.{count-read}
 use Rattle.lxt_round_trip.proofs.NamesReadLaws.{NameKept, names-read, names-size, memory-small}
 
 -- each name may be written

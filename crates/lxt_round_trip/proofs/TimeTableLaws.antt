@@ -26,12 +26,13 @@ use Rattle.lxt_written.specs.Writing.{valueOfAllowed, changesAllowed}
 use Rattle.lxt_written.specs.Stands.{Stands, stands-front, stands-back}
 use Rattle.lxt_round_trip.specs.Steps.{ChangeTyped}
 use Rattle.lxt_written.specs.TableSizes.{length-words}
+use Rattle.lxt_written.specs.WrittenLaws.{length-deltas}
 use Rattle.lxt_round_trip.proofs.TableLaws.{stands-word, stands-words}
 use Rattle.lxt_round_trip.proofs.ListLaws.{each-at, each-image, each-source, any-none, getD-below}
 use Rattle.lxt_round_trip.proofs.AllowedLaws.{Kept}
 use Rattle.lxt_round_trip.proofs.LaidLaws.{laid-order, laid-within, laid-times}
 use Rattle.lxt_round_trip.proofs.BodyLaws.{Bodies}
-use Rattle.lxt_round_trip.proofs.FrameLaws.{length-deltas, not-wide, times-start, time-count}
+use Rattle.lxt_round_trip.proofs.FrameLaws.{not-wide, times-start, time-count}
 use Rattle.lxt_round_trip.proofs.GeometryReadLaws.{roots-all}
 use Rattle.lxt_round_trip.proofs.SyncReadLaws.{sync-read}
 use Rattle.lxt_round_trip.proofs.TimesReadLaws.{NeverFall, end, next, above-first, below-last, sums-back, small-time, deltas-small}

@@ -7,3 +7,4 @@ pub mod WrittenExamples
 pub mod Stands
 pub mod CommandLaws
 pub mod TableSizes
+pub mod WrittenLaws
