@@ -28,6 +28,37 @@ old-time o time t h = eqb-true t time (old (eqb o 4) (eqb t time) h)
     old false true e = refl
     old false false e = absurd (true≢false e)
 
+-- ---- what putting an entry answers
+
+module _ (out : List ℕ) (e : Entry) (gap o t : ℕ) (b : Bool) (is : b ≡ isNew o (e .time) t) where
+  -- it gets none
+  pub entry-none : not b ≡ true → EntryPut out e gap o t out e
+  entry-none h =
+      record {
+        old = λ y. (refl, refl);
+        new = λ y. absurd (wrong b (is ∙ y) h);
+      }
+    where
+      wrong : (b : Bool) → b ≡ true → not b ≡ true → ⊥
+      wrong true e f = true≢false (sym f)
+      wrong false e f = true≢false (sym e)
+
+  -- it gets one
+  pub entry-is-new : not b ≡ false → isNew o (e .time) t ≡ true
+  entry-is-new h = sym is ∙ yes b h
+    where
+      yes : (b : Bool) → not b ≡ false → b ≡ true
+      yes true f = refl
+      yes false f = absurd (true≢false f)
+
+  pub entry-given : not b ≡ false → (one two : List ℕ) → one ≡ placed out (e .at) (bigEndian 4 (o - e .position))
+      → two ≡ placed one (e .at + gap) (bigEndian 4 (t - e .time)) → EntryPut out e gap o t two (record { at = e .at + 4; position = o; time = t })
+  entry-given h one two first second =
+      record {
+        old = λ y. absurd (true≢false (sym (entry-is-new h) ∙ y));
+        new = λ y. (second ∙ rw first, refl);
+      }
+
 -- the newest entry has the time of the newest change
 pub entry-time : (out : List ℕ) (e : Entry) (gap o t : ℕ) (out′ : List ℕ) (e′ : Entry) → EntryPut out e gap o t out′ e′ → e′ .time ≡ t
 entry-time out e gap o t out′ e′ p =

@@ -21,7 +21,8 @@ use Rattle.lxt_written.specs.WrittenChanges.{changeBytes, numbered, lastOf, Lai
 use Rattle.lxt_written.specs.WrittenFile.{words, deltasFrom, entriesOf}
 use Rattle.lxt_written.specs.Writing.{factsFor, valueAllowed, valueOfAllowed, changesAllowed}
 use Rattle.lxt_written.specs.Stands.{Stands}
-use Rattle.lxt_written.specs.TableSizes.{length-words, length-deltas}
+use Rattle.lxt_written.specs.TableSizes.{length-words}
+use Rattle.lxt_written.specs.WrittenLaws.{length-deltas}
 use Rattle.lxt_pack.specs.Change.{Part, Sound, Puts}
 use Rattle.lxt_layout.proofs.PlacedLaws.{placed-stands, placed-below, placed-above, placed-tail, stands-join-at}
 use Rattle.lxt_writer.specs.declared.changes.Entry.{Entry}
@@ -147,6 +148,10 @@ module _ (rows changes : List (List ℕ)) (values last out : List ℕ) (position
           let first = and-both (leb (e .time) (getD r 1 0)) (rowAllowed rows r values) (both .0) in
           (leb-true (e .time) (getD r 1 0) (first .0), first .1, both .1)
 
+      -- the facility of the row has a place in the table
+      pub table-has : (f : ℕ) → f ≡ getD (getD changes i []) 0 0 → f < length last′
+      table-has f ef = omega (arith, row-known rows (getD changes i []) values last′ (w .before) o (w .laying) (here-sound .1), w .laying .free .long)
+
       bytes-are : step .bytes ≡ rowBytes rows (getD changes i []) values last′ o
       unfolding row step
       bytes-are = row-laid rows (getD changes i []) values last′ (w .before) o (w .laying) (here-sound .1)
@@ -270,7 +275,7 @@ module _ (rows changes : List (List ℕ)) (values last out : List ℕ) (position
                   o
                   (w .place)
                   (placed-stands one o bytes wide));
-              entries = rw (puts, time, ← ends) (entries-kept _ _ _ positions gap e₁ one o bytes (rw step-time at turned) room);
+              entries = rw (puts, ← ends) (entries-kept _ _ _ positions gap e₁ one o bytes (rw (step-time, ← time) at turned) room);
               long = rw puts (length-placed one o bytes wide ∙ long ∙ w .long);
               tail = λ k q.
                   rw puts (placed-tail one o bytes wide k (omega arith))
@@ -283,11 +288,19 @@ module _ (rows changes : List (List ℕ)) (values last out : List ℕ) (position
     unfolding layFrom joined deltasFrom
     writing-ended h =
         let none : drop i changes ≡ [] = row-none changes i (w .upto) h in
+        let all : List Laid = layRows rows values 4 [] changes in
+        let bytes : joined (λ l. l .bytes) all ≡ w .done = w .bytes ∙ rw none (append-nil (w .done)) in
+        let ps : List ℕ = w .entries .put-positions in
+        let qs : List ℕ = w .entries .put-times in
+        let positions-are : positionsOf 0 (entriesOf all) ≡ ps = w .entries .positions-left ∙ rw (none, entries-none o (e .time)) (append-nil ps) in
+        let times-are : timesOf 0 (entriesOf all) ≡ qs = w .entries .times-left ∙ rw (none, entries-none o (e .time)) (append-nil qs) in
         record {
-          bytes = rw (w .bytes ∙ rw none (append-nil (w .done))) (w .stands);
-          positions-stand = rw (w .entries .positions-left ∙ rw (none, entries-none o (e .time)) (append-nil (w .entries .put-positions))) (w .entries .positions-stand);
-          times-stand = rw (w .entries .times-left ∙ rw (none, entries-none o (e .time)) (append-nil (w .entries .put-times))) (w .entries .times-stand);
-          newest = λ f k. w .laying .newest f k ∙ sym (ap (lastOf f) (w .pairs ∙ rw none));
+          bytes = rw bytes (w .stands);
+          positions-stand = rw positions-are (w .entries .positions-stand);
+          times-stand = rw times-are (w .entries .times-stand);
+          newest = λ f k.
+              let all-pairs : reverse (map pairOf (layRows rows values 4 [] changes)) ≡ w .before = w .pairs ∙ rw none in
+              rw all-pairs (w .laying .newest f k);
           long = w .long;
           tail = w .tail;
         }
