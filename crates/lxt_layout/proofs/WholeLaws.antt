@@ -57,7 +57,7 @@ unfolding valuesSection
 values-long scale initial true = refl
 values-long scale initial false = refl
 
-tail-long : (p : Places) (real : Bool) → length (tailOf p real) ≡ (if real then 42 else 37)
+pub tail-long : (p : Places) (real : Bool) → length (tailOf p real) ≡ (if real then 42 else 37)
 unfolding tailOf
 tail-long p real =
     let list : List ℕ = itemsFrom 0x01 (itemValues p real) in

@@ -298,6 +298,7 @@ module _ (rows changes : List (List ℕ)) (values last out : List ℕ) (position
           bytes = rw bytes (w .stands);
           positions-stand = rw positions-are (w .entries .positions-stand);
           times-stand = rw times-are (w .entries .times-stand);
+          table-long = w .laying .free .long;
           newest = λ f k.
               let all-pairs : reverse (map pairOf (layRows rows values 4 [] changes)) ≡ w .before = w .pairs ∙ rw none in
               rw all-pairs (w .laying .newest f k);

@@ -159,6 +159,7 @@ pub record ChangesPut (rows changes : List (List ℕ)) (values out : List ℕ) (
   pub bytes : Stands out′ 4 (joined (λ l. l .bytes) (layRows rows values 4 [] changes))
   pub positions-stand : Stands out′ positions (positionsOf 0 (entriesOf (layRows rows values 4 [] changes)))
   pub times-stand : Stands out′ (positions + gap) (timesOf 0 (entriesOf (layRows rows values 4 [] changes)))
+  pub table-long : length last′ ≡ length rows
   pub newest : (f : ℕ) → f < length rows → getD last′ f 0 ≡ lastOf f (reverse (map pairOf (layRows rows values 4 [] changes)))
   pub long : length out′ ≡ length out
   pub tail : (k : ℕ) → positions + gap + gap ≤ k → drop k out′ ≡ drop k out

@@ -19,7 +19,7 @@ use lxt_pack::put;
 // The places of a row.
 const FACILITY: usize = 0;
 
-const TIME: usize = 1;
+pub const TIME: usize = 1;
 
 const VALUE_START: usize = 2;
 
