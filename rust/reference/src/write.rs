@@ -212,9 +212,10 @@ impl Facility {
             (0, _) if any_symbol && code(first) != NO_CODE => Some(packed(3 + code(first), 0)),
             // ASCII 0 and 1 differ in their lowest bit.
             (1, b'0' | b'1') => Some(packed(0, 1)),
-            _ if any_symbol => match symbols.iter().map(|symbol| code(*symbol)).max()? {
+            // Codes of two bits stay so when joined, those of four bits too; NO_CODE has all bits.
+            _ if any_symbol => match symbols.iter().fold(0, |all, it| all | code(*it)) {
                 0..=3 => Some(packed(1, 2)),
-                4..=8 => Some(packed(2, 4)),
+                4..=15 => Some(packed(2, 4)),
                 _ => None,
             },
             _ => None,
@@ -471,37 +472,34 @@ impl Facility {
 
 /// The 1-bit form, eight symbols a byte from its top bit.
 fn pack_bits(symbols: &[u8], data: &mut [u8]) {
-    let eights = symbols.chunks_exact(8);
-    let rest = eights.remainder();
+    let (eights, rest) = symbols.as_chunks();
     for (byte, eight) in data.iter_mut().zip(eights) {
-        *byte = low_bits(eight);
+        *byte = low_bits(*eight);
     }
-    if !rest.is_empty() {
-        let mut eight = [b'0'; 8];
+    if let (false, Some(last)) = (rest.is_empty(), data.last_mut()) {
+        let mut eight = [0; 8];
         eight[..rest.len()].copy_from_slice(rest);
-        data[symbols.len() / 8] = low_bits(&eight);
+        *last = low_bits(eight);
     }
 }
 
-/// The lowest bits of eight bytes, that of the first byte at the top.
-fn low_bits(eight: &[u8]) -> u8 {
-    let mut bytes = [0; 8];
-    bytes.copy_from_slice(eight);
-    let lowest = u64::from_be_bytes(bytes) & 0x0101_0101_0101_0101;
-    // The bit of byte i, at 8 * i, comes to 56 + i by the factor's bit at 56 - 7 * i; no two bits meet.
+/// The lowest bits of eight bytes, that of the first byte at the top. The lowest bit of an ASCII 0 or 1 is its
+/// code.
+fn low_bits(eight: [u8; 8]) -> u8 {
+    let lowest = u64::from_be_bytes(eight) & 0x0101_0101_0101_0101;
+    // The bit of byte i from below, at 8 * i, comes to 56 + i by the factor's bit at 56 - 7 * i; no two meet.
     (lowest.wrapping_mul(0x0102_0408_1020_4080) >> 56) as u8
 }
 
 /// The form of so many symbols a byte, from its top bit; unused bits are 0.
 fn pack<const A_BYTE: usize>(symbols: &[u8], data: &mut [u8]) {
     let bits = 8 / A_BYTE;
-    let packed = |some: &[u8]| some.iter().fold(0, |byte, it| byte << bits | code(*it));
-    let whole = symbols.chunks_exact(A_BYTE);
-    let rest = whole.remainder();
+    let (whole, rest) = symbols.as_chunks::<A_BYTE>();
     for (byte, some) in data.iter_mut().zip(whole) {
-        *byte = packed(some);
+        *byte = some.iter().fold(0, |byte, it| byte << bits | code(*it));
     }
-    if !rest.is_empty() {
-        data[symbols.len() / A_BYTE] = packed(rest) << (bits * (A_BYTE - rest.len()));
+    if let (false, Some(last)) = (rest.is_empty(), data.last_mut()) {
+        let packed = rest.iter().fold(0, |byte, it| byte << bits | code(*it));
+        *last = packed << (bits * (A_BYTE - rest.len()));
     }
 }
