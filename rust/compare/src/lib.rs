@@ -79,10 +79,11 @@ pub const CALLS: [&str; 11] = [
 /// Whether a call can give a refusal: one of the checks of the file that it makes, or of its question, or of
 /// what it is to write.
 pub fn can_refuse(call: &str, number: u8) -> bool {
-    let file = match call {
-        "write" => 1..=0,
-        "carry on" => 1..=14,
-        _ => 1..=17,
+    // Of the file 1 up to this.
+    let of_file = match call {
+        "write" => 0,
+        "carry on" => 14,
+        _ => 17,
     };
     let question: &[u8] = match call {
         "judge" | "stray" => &[],
@@ -94,7 +95,7 @@ pub fn can_refuse(call: &str, number: u8) -> bool {
         "write" => &[24, 25],
         _ => &[20, 21],
     };
-    file.contains(&number) || question.contains(&number)
+    (1..=of_file).contains(&number) || question.contains(&number)
 }
 
 /// Files about which all calls were compared, inputs that were written, and what was seen.
