@@ -230,13 +230,10 @@ impl Facility {
     }
 }
 
-/// The fewest bytes that hold a delta. Offsets have 24 bits.
+/// The fewest bytes that hold a delta, 1 to 3: offsets have 24 bits.
 fn delta_bytes(delta: u32) -> usize {
-    match delta {
-        0..=0xFF => 1,
-        0x100..=0xFFFF => 2,
-        _ => 3,
-    }
+    let bits = u32::BITS - (delta | 1).leading_zeros();
+    bits.div_ceil(8) as usize
 }
 
 const NO_CODE: u8 = 0xFF;
@@ -431,12 +428,15 @@ fn section_list(plan: &Plan, places: &Places) -> Vec<(u8, u32)> {
 
 /// The command byte, with the number of delta bytes less one in bits 5 and 4, and the delta.
 fn lay_command(bytes: &mut Bytes, command: u8, delta: u32) {
-    let [_, high, middle, low] = delta.to_be_bytes();
-    match delta_bytes(delta) {
-        1 => bytes.put([command, low]),
-        2 => bytes.put([0x10 | command, middle, low]),
-        _ => bytes.put([0x20 | command, high, middle, low]),
+    let k = delta_bytes(delta);
+    let first = u32::from(command) | (k as u32 - 1) << 4;
+    let head = (first << 24 | delta << (8 * (3 - k))).to_be_bytes();
+    // Without a test of k where four bytes are left: what follows is laid over those that are too many.
+    match bytes.rest.first_chunk_mut() {
+        Some(four) => *four = head,
+        None => bytes.rest[..1 + k].copy_from_slice(&head[..1 + k]),
     }
+    bytes.take(1 + k);
 }
 
 impl Facility {
