@@ -51,6 +51,11 @@ fn read_back(input: &Input, what: &str) -> Vec<u8> {
         assert_eq!((facts.msb, facts.lsb), ends, "{what}");
         assert_eq!(facts.width as usize, input.width_of(facility), "{what}");
     }
+    changes_are_back(input, &file, &judged, what);
+    file
+}
+
+fn changes_are_back(input: &Input, file: &[u8], judged: &reference::Judged, what: &str) {
     let asked = vec![1; input.facilities.len()];
     let mut walk = judged.full_list(&asked).expect("a list");
     walk.reverse();
@@ -70,7 +75,6 @@ fn read_back(input: &Input, what: &str) -> Vec<u8> {
         };
         assert_eq!(value, input.value_of(place), "{what}");
     }
-    file
 }
 
 #[test]
@@ -166,20 +170,8 @@ fn bytes_met(met: &mut Met, file: &[u8]) {
     }
 }
 
-#[test]
-fn sound_inputs_are_of_all_kinds_and_read_back() {
-    let mut met = Met::default();
-    for seed in 0..6_000 {
-        let input = sound_input(&mut Random::new(seed));
-        let file = read_back(&input, &format!("seed {seed}"));
-        names_met(&mut met, &input);
-        values_met(&mut met, &input);
-        bytes_met(&mut met, &file);
-        let names = input.facilities.iter().map(|row| [row[0], row[1]]);
-        parts_met(&mut met, input.names.len(), &Vec::from_iter(names));
-        let values = input.changes.iter().map(|row| [row[2], row[3]]);
-        parts_met(&mut met, input.values.len(), &Vec::from_iter(values));
-    }
+/// What sound inputs and their files are to have.
+fn expected() -> Vec<String> {
     let mut expected: Vec<String> = [
         "no facilities",
         "no changes",
@@ -214,7 +206,24 @@ fn sound_inputs_are_of_all_kinds_and_read_back() {
     for width in [1, 2, 7, 8, 9, 31, 32, 33, 4_095, 4_096] {
         expected.push(format!("bits of width {width}"));
     }
-    for what in &expected {
+    expected
+}
+
+#[test]
+fn sound_inputs_are_of_all_kinds_and_read_back() {
+    let mut met = Met::default();
+    for seed in 0..6_000 {
+        let input = sound_input(&mut Random::new(seed));
+        let file = read_back(&input, &format!("seed {seed}"));
+        names_met(&mut met, &input);
+        values_met(&mut met, &input);
+        bytes_met(&mut met, &file);
+        let names = input.facilities.iter().map(|row| [row[0], row[1]]);
+        parts_met(&mut met, input.names.len(), &Vec::from_iter(names));
+        let values = input.changes.iter().map(|row| [row[2], row[3]]);
+        parts_met(&mut met, input.values.len(), &Vec::from_iter(values));
+    }
+    for what in &expected() {
         met.least_of(what, 10);
     }
 }

@@ -9,7 +9,7 @@ use lxt_compare::write::{
     Seen,
 };
 use lxt_generate::{
-    nonsense_input, sound_input, Input, InputCase, Random, BITS, INPUT_DAMAGES, TEXT,
+    nonsense_input, sound_input, Input, InputCase, Random, BITS, INPUT_DAMAGES, REAL, TEXT,
 };
 use lxt_reference::Judged;
 
@@ -93,10 +93,10 @@ fn the_traces_are_written_again_and_read_back() {
         assert!(written(&again, file.len()).as_ref() == Ok(&file), "{name}");
         *seen.entry("written").or_default() += 1;
         *seen.entry("with aliases").or_default() += u32::from(left_out > 0);
-        let reals = input.facilities.iter().any(|row| row[2] == 2);
-        let texts = input.facilities.iter().any(|row| row[2] == TEXT);
-        *seen.entry("with reals").or_default() += u32::from(reals);
-        *seen.entry("with texts").or_default() += u32::from(texts);
+        for (what, kind) in [("with reals", REAL), ("with texts", TEXT)] {
+            let some = input.facilities.iter().any(|row| row[2] == kind);
+            *seen.entry(what).or_default() += u32::from(some);
+        }
     }
     println!("{seen:?}");
     assert!(

@@ -93,6 +93,28 @@ fn around_fault(input: &Input, error: WriteError) -> Option<[Input; 2]> {
     Some([with, without])
 }
 
+/// The rules that damages break, where it is always one.
+const RULES: [(&str, &str); 18] = [
+    ("4,097 facilities", "MostFacilities"),
+    ("name of 1,024 bytes", "NameLength"),
+    ("zero in a name", "ZeroInName"),
+    ("width 4,097", "Width"),
+    ("msb and lsb far apart", "Width"),
+    ("facility n", "FacilityNumber"),
+    ("change without facilities", "FacilityNumber"),
+    ("one symbol short", "SymbolCount"),
+    ("one symbol long", "SymbolCount"),
+    ("byte that is no symbol", "Symbol"),
+    ("lower case", "Symbol"),
+    ("code in place of its symbol", "Symbol"),
+    ("integer with another symbol", "Symbol"),
+    ("integer of one other symbol", "Symbol"),
+    ("integer of 31 or 33 symbols", "SymbolCount"),
+    ("zero in a text", "ZeroInText"),
+    ("time one below", "Times"),
+    ("time 0 after the greatest", "Times"),
+];
+
 #[test]
 fn what_is_refused_is_named() {
     let mut seen: BTreeMap<&str, BTreeMap<String, u32>> = BTreeMap::new();
@@ -119,26 +141,7 @@ fn what_is_refused_is_named() {
             *rules.entry(rule).or_default() += 1;
         }
     }
-    for (damage, rule) in [
-        ("4,097 facilities", "MostFacilities"),
-        ("name of 1,024 bytes", "NameLength"),
-        ("zero in a name", "ZeroInName"),
-        ("width 4,097", "Width"),
-        ("msb and lsb far apart", "Width"),
-        ("facility n", "FacilityNumber"),
-        ("change without facilities", "FacilityNumber"),
-        ("one symbol short", "SymbolCount"),
-        ("one symbol long", "SymbolCount"),
-        ("byte that is no symbol", "Symbol"),
-        ("lower case", "Symbol"),
-        ("code in place of its symbol", "Symbol"),
-        ("integer with another symbol", "Symbol"),
-        ("integer of one other symbol", "Symbol"),
-        ("integer of 31 or 33 symbols", "SymbolCount"),
-        ("zero in a text", "ZeroInText"),
-        ("time one below", "Times"),
-        ("time 0 after the greatest", "Times"),
-    ] {
+    for (damage, rule) in RULES {
         assert_eq!(seen[damage], BTreeMap::from([(rule.to_string(), 40)]));
     }
     let scales = [&seen["timescale below -21"], &seen["timescale above 2"]];
@@ -187,11 +190,20 @@ fn an_error_says_where_and_what() {
         shown(Writer::new(0, 9).map(|_| ())),
         "initial symbol 9: its code is from 0 to 8"
     );
-    // What was refused was not added.
+}
+
+#[test]
+fn what_was_refused_is_not_added() {
+    let mut writer = Writer::new(-21, 0).expect("a writer");
+    let real = writer.facility(b"", Kind::Real, 9, 9).expect("a facility");
+    assert!(writer.facility(&[b'n'; 1_024], Kind::Text, 0, 0).is_err());
+    writer.change(real, 4, 0.5.into()).expect("a change");
+    assert!(writer.change(real, 3, 0.5.into()).is_err());
+    assert!(writer.change(1, 4, NewValue::Text(b"")).is_err());
     writer.change(real, 4, f64::NAN.into()).expect("a change");
     let file = writer.write().expect("a file");
     let trace = Trace::open(&file).expect("a trace");
-    assert_eq!(trace.facilities(), 0..2);
+    assert_eq!(trace.facilities(), 0..1);
     assert_eq!(trace.walk_all().expect("a walk").count(), 2);
     let value = trace.value_at(real, 4).expect("a value");
     assert!(matches!(value, Reading::Real(number) if number.is_nan()));

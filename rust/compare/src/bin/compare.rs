@@ -50,38 +50,37 @@ fn main() {
         let counts = (0..=25).map(|number| answers.get(&(call, number)).unwrap_or(&0).to_string());
         println!("{call:>13}  {}", Vec::from_iter(counts).join(" "));
     }
-    let padding = compared.padding();
-    for (call, [clean, dirty]) in padding {
-        println!("{call:>13}  padding clean {clean}, dirty {dirty}");
-    }
-    let met = compared.stray().into_iter();
-    let met = met.chain(compared.zero_deltas());
-    let met = met.chain(compared.long_times());
-    let met = Vec::from_iter(met);
-    for (what, count) in &met {
-        println!("{count:>13}  {what}");
-    }
-    let written = compared.written();
-    for (what, count) in &written {
-        println!("{count:>13}  {what}");
-    }
-    // So many files and inputs have all of it; else the run says nothing about padding, stray bytes, such times
-    // or what was written.
-    let mut missing = Vec::new();
-    if padding.iter().any(|(_, counts)| counts.contains(&0)) {
-        missing.push("clean and dirty padding");
-    }
-    let unmet = met.iter().filter(|(_, count)| *count == 0);
-    missing.extend(unmet.map(|(what, _)| *what));
-    if compared.files < 1_000 {
-        missing.clear();
-    }
-    if compared.inputs >= 5_000 {
-        let unmet = written.iter().filter(|(_, count)| *count == 0);
-        missing.extend(unmet.map(|(what, _)| what.as_str()));
-    }
+    let missing = missing(&compared);
     if !missing.is_empty() {
         eprintln!("did not occur: {}", missing.join(", "));
         std::process::exit(1);
     }
+}
+
+/// Prints what occurred, and gives what did not although there were enough files or inputs: then the run says
+/// nothing about padding, stray bytes, such times or what was written.
+fn missing(compared: &Compared) -> Vec<String> {
+    let mut missing = Vec::new();
+    let enough = compared.files >= 1_000;
+    for (call, counts) in compared.padding() {
+        let [clean, dirty] = counts;
+        println!("{call:>13}  padding clean {clean}, dirty {dirty}");
+        if enough && counts.contains(&0) {
+            missing.push(format!("clean and dirty padding of {call}"));
+        }
+    }
+    let met = compared.stray().into_iter();
+    let met = met.chain(compared.zero_deltas());
+    let met = met.chain(compared.long_times());
+    let met = met.map(|(what, count)| (what.to_string(), count, enough));
+    let enough = compared.inputs >= 5_000;
+    let written = compared.written().into_iter();
+    let written = written.map(|(what, count)| (what, count, enough));
+    for (what, count, enough) in met.chain(written) {
+        println!("{count:>13}  {what}");
+        if enough && count == 0 {
+            missing.push(what);
+        }
+    }
+    missing
 }

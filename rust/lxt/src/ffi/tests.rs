@@ -790,37 +790,43 @@ fn empty_slices_may_be_written_from_and_into() {
     assert_eq!(super::write(nothing.given(), &mut [], &mut length), 24);
 }
 
-/// Rows from addresses that 4 divides and 8 does not, and pools and a file from any.
+/// Rows from an address that 4 divides and 8 does not.
+#[repr(C)]
+struct OddRows<T> {
+    before: u32,
+    rows: [T; 90],
+}
+
+fn odd_rows<T: Copy + Default>(rows: &[T]) -> At64<OddRows<T>> {
+    let mut odd = At64(OddRows {
+        before: 0,
+        rows: [T::default(); 90],
+    });
+    odd.0.rows[..rows.len()].copy_from_slice(rows);
+    assert_eq!(odd.0.rows.as_ptr() as usize % 8, 4);
+    odd
+}
+
+/// A pool so many bytes behind an address that 64 divides.
+fn shifted(pool: &[u8], shift: usize) -> At64<[u8; 3_100]> {
+    let mut bytes = At64([0; 3_100]);
+    bytes.0[shift..][..pool.len()].copy_from_slice(pool);
+    bytes
+}
+
 #[test]
 fn rows_and_pools_may_lie_anywhere_that_their_types_allow() {
-    #[repr(C)]
-    struct Odd<T> {
-        before: u32,
-        rows: [T; 90],
-    }
     let mut seen = 0;
     for seed in 3_000..3_400 {
         let rows = rows(lxt_generate::input_case(seed).input);
         let given = rows.given();
         let (n, count) = (given.facilities.len(), given.changes.len());
-        if n > 90 || count > 90 || given.names.len() > 900 || given.values.len() > 3_000 {
+        if n.max(count) > 90 || given.names.len().max(given.values.len()) > 3_000 {
             continue;
         }
-        let mut facilities = At64(Odd {
-            before: 0,
-            rows: [NewFacility::default(); 90],
-        });
-        facilities.0.rows[..n].copy_from_slice(given.facilities);
-        let mut changes = At64(Odd {
-            before: 0,
-            rows: [NewChange::default(); 90],
-        });
-        changes.0.rows[..count].copy_from_slice(given.changes);
-        assert_eq!(facilities.0.rows.as_ptr() as usize % 8, 4);
-        let (mut names, mut values) = (At64([0; 1_000]), At64([0; 3_100]));
+        let (facilities, changes) = (odd_rows(given.facilities), odd_rows(given.changes));
         let shift = seed as usize % 16;
-        names.0[shift..][..given.names.len()].copy_from_slice(given.names);
-        values.0[shift..][..given.values.len()].copy_from_slice(given.values);
+        let (names, values) = (shifted(given.names, shift), shifted(given.values, shift));
         let odd = super::Given {
             facilities: &facilities.0.rows[..n],
             names: &names.0[shift..][..given.names.len()],

@@ -328,12 +328,15 @@ fn the_room_is_tested_last_and_nothing_is_written_without_it() {
 }
 
 #[test]
-fn facilities_names_and_widths_at_their_limits() {
+fn facilities_at_their_limit() {
     let many = |n| (0..n).fold(nothing(), |it, _| it.facility("", BITS, 0, 0));
     let most = many(4_096).change(4_095, 1, "1");
     assert_eq!(read(&most, 200_000).facilities, 4_096);
     many(4_097).is_refused("4,097 facilities");
+}
 
+#[test]
+fn names_at_their_limits() {
     nothing().facility([b'n'; 1_023], BITS, 0, 0).file();
     nothing()
         .facility([b'n'; 1_024], BITS, 0, 0)
@@ -345,7 +348,10 @@ fn facilities_names_and_widths_at_their_limits() {
     nothing()
         .facility(b"ab\0", TEXT, 0, 0)
         .is_refused("a zero behind a name");
+}
 
+#[test]
+fn widths_and_kinds_at_their_limits() {
     let (least, most) = (i32::MIN, i32::MAX);
     for (msb, lsb) in [
         (4_095, 0),
@@ -422,7 +428,7 @@ fn parts_lie_inside_their_pools() {
 }
 
 #[test]
-fn values_are_of_their_kind_and_length() {
+fn integers_have_32_symbols_0_and_1() {
     let integer = || nothing().facility("i", INTEGER, 0, 0);
     for length in [0, 1, 31, 33] {
         integer()
@@ -438,6 +444,10 @@ fn values_are_of_their_kind_and_length() {
             .change(0, 0, symbol.to_string().repeat(32))
             .is_refused("an integer of another");
     }
+}
+
+#[test]
+fn reals_and_texts_are_of_their_length_and_without_a_zero() {
     for length in [0, 7, 9, 16] {
         nothing()
             .facility("r", REAL, 0, 0)
@@ -456,6 +466,10 @@ fn values_are_of_their_kind_and_length() {
         .facility("t", TEXT, 0, 0)
         .change(0, 0, "ab\0")
         .is_refused("a zero behind a text");
+}
+
+#[test]
+fn a_change_is_of_a_facility_that_is_given() {
     // Without facilities there is none that could change.
     nothing().change(0, 0, "").is_refused("no facility");
     nothing()
