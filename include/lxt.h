@@ -1,12 +1,13 @@
-/* A proved reader of LXT traces.
+/* A proved reader and writer of LXT traces.
  *
  * Every function takes any bytes and any question, and answers 0 or the number of the one refusal, that of
  * the first check that fails (enum lxt_refusal). Where it refuses, nothing that was lent has changed.
  *
- * Each call judges the file first, by all of its checks, 1 to 17, whatever was asked before; lxt_carry_on
- * alone makes only 1 to 14 of them. After the file come 18, 19, 21 and 22, in this order; in lxt_carry_on 21
- * for the record, 20, and 21 for the output. So a question costs time that grows with the file's length and
- * its number of changes: to read many changes of a large file, walk.
+ * Each call that reads judges the file first, by all of its checks, 1 to 17, whatever was asked before;
+ * lxt_carry_on alone makes only 1 to 14 of them. After the file come 18, 19, 21 and 22, in this order; in
+ * lxt_carry_on 21 for the record, 20, and 21 for the output. So a question costs time that grows with the
+ * file's length and its number of changes: to read many changes of a large file, walk. lxt_write makes a file
+ * and gives 24 and 25 alone.
  *
  * What the caller owes:
  *
@@ -93,7 +94,12 @@ enum lxt_refusal {
        facility, an output two numbers for each change */
     LXT_REFUSED_ROOM = 21,
     /* the asked bytes are not one for each facility */
-    LXT_REFUSED_ASKED = 22
+    LXT_REFUSED_ASKED = 22,
+    /* the input of the writer breaks a limit or a rule, or its file would have more than 16,777,216
+       bytes */
+    LXT_REFUSED_WRITER_INPUT = 24,
+    /* the file that is to be written has more bytes than the room that was lent */
+    LXT_REFUSED_WRITER_ROOM = 25
 };
 
 /* Padding is the bits of a change's last data byte that no symbol uses: symbols fill whole bytes. It is clean
@@ -245,6 +251,51 @@ typedef struct {
  * output_room is below 2 * size, which does not wrap. */
 uint32_t lxt_carry_on(const uint8_t *file, size_t length, lxt_pair *pairs, size_t pairs_length, uint32_t size,
                       uint32_t *output, size_t output_room, lxt_handed *handed);
+
+/* What is to be written: facilities, whose numbers are their places from 0 on, and changes in the order in
+ * which they are to stand in the file. Names and values are parts of two lent buffers, each by its start and
+ * length in bytes. Parts may overlap or be shared, and bytes of a buffer that no part has do not matter. */
+typedef struct {
+    uint32_t name_start;
+    uint32_t name_length; /* up to LXT_LONGEST_NAME bytes, none of them 0; names may be equal or empty */
+    uint32_t kind;        /* an enum lxt_kind */
+    int32_t msb;          /* of bits |msb - lsb| + 1 symbols, up to LXT_WIDEST. Of the other kinds msb and */
+    int32_t lsb;          /* lsb may be any: 31 and 0 are written for integers, 0 and 0 for reals and texts */
+} lxt_new_facility;
+
+/* A value is, by the facility's kind,
+ *
+ *     bits       as many symbols, LXT_SYMBOLS in ASCII, as they are wide
+ *     integer    32 symbols, 0 and 1 in ASCII
+ *     real       the 8 bytes of a binary64, the lowest first
+ *     text       any bytes but 0, without a zero behind them
+ */
+typedef struct {
+    uint32_t facility;
+    uint32_t time; /* not below that of the change before it, of whatever facility */
+    uint32_t value_start;
+    uint32_t value_length;
+} lxt_new_change;
+
+/* Writes a trace of version 4 with 32-bit times (tag 06). Where it answers 0, length is the file's length and
+ * the first length bytes of out are the file; out past them stays.
+ *
+ * The file is accepted, with no stray bytes and clean padding, and is read back as what was given: the same
+ * names, kinds and ends of bits, and the same changes, those of one time in their order. Its bytes are settled
+ * by what is given: each change takes the fewest bytes that can hold it, each different time has one entry, and
+ * each name takes over all that it shares with the name before.
+ *
+ * initial is the code of the symbol that bits and integers have before their first change, 0 to 8: its place
+ * in LXT_SYMBOLS. timescale is -21 to 2. A room of LXT_LONGEST_FILE bytes is enough for every file.
+ *
+ * The refusals: 24 where something breaks a rule, whatever the room: more than LXT_MOST_FACILITIES facilities,
+ * a part that is not inside its buffer, what is said above about names, kinds, widths, initial, timescale,
+ * facility numbers, times and values, or a file of more than LXT_LONGEST_FILE bytes. Then 25 where room is
+ * below the file's length. No facilities, no changes, empty texts and values that repeat are fine. */
+uint32_t lxt_write(const lxt_new_facility *facilities, size_t facility_count, const uint8_t *names,
+                   size_t names_length, const lxt_new_change *changes, size_t change_count,
+                   const uint8_t *values, size_t values_length, uint8_t initial, int8_t timescale,
+                   uint8_t *out, size_t room, uint32_t *length);
 
 #ifdef __cplusplus
 }

@@ -1,4 +1,4 @@
-//! Compares the proved functions with the independent reader, call by call: every answer, and all of
+//! Compares the proved functions with the independent reader and writer, call by call: every answer, and all of
 //! the lent memory and around it. A difference panics with what is needed to repeat it.
 
 #![forbid(unsafe_code)]
@@ -9,6 +9,7 @@ pub mod questions;
 pub mod stray;
 pub mod times;
 pub mod walk;
+pub mod write;
 
 use std::collections::BTreeMap;
 use std::fs;
@@ -16,7 +17,7 @@ use std::io;
 use std::ops::Range;
 use std::path::Path;
 
-use lxt_generate::Case;
+use lxt_generate::{Case, InputCase};
 
 /// The traces of the repository by name, those of at most so many bytes.
 pub fn traces(longest: usize) -> Vec<(String, Vec<u8>)> {
@@ -60,8 +61,8 @@ pub const MADE: [Making; 4] = [
     ("aliases", lxt_generate::aliases),
 ];
 
-/// The ten calls.
-pub const CALLS: [&str; 10] = [
+/// The eleven calls.
+pub const CALLS: [&str; 11] = [
     "judge",
     "stray",
     "facts",
@@ -72,13 +73,17 @@ pub const CALLS: [&str; 10] = [
     "value_at",
     "start",
     "carry on",
+    "write",
 ];
 
-/// Whether a call can give a refusal: one of the checks of the file that it makes, or of its question.
+/// Whether a call can give a refusal: one of the checks of the file that it makes, or of its question, or of
+/// what it is to write.
 pub fn can_refuse(call: &str, number: u8) -> bool {
-    let file = match call {
-        "carry on" => 1..=14,
-        _ => 1..=17,
+    // Of the file 1 up to this.
+    let of_file = match call {
+        "write" => 0,
+        "carry on" => 14,
+        _ => 17,
     };
     let question: &[u8] = match call {
         "judge" | "stray" => &[],
@@ -87,22 +92,31 @@ pub fn can_refuse(call: &str, number: u8) -> bool {
         "change_before" => &[18, 19],
         "change" => &[18, 19, 21],
         "start" => &[21, 22],
+        "write" => &[24, 25],
         _ => &[20, 21],
     };
-    file.contains(&number) || question.contains(&number)
+    (1..=of_file).contains(&number) || question.contains(&number)
 }
 
-/// Files about which all calls were compared, and what was seen.
+/// Files about which all calls were compared, inputs that were written, and what was seen.
 #[derive(Default)]
 pub struct Compared {
     pub files: u64,
+    pub inputs: u64,
     judged: judge::Seen,
     stray: stray::Seen,
     questions: questions::Seen,
     walks: walk::Seen,
+    written: write::Seen,
 }
 
 impl Compared {
+    /// Compares writing an input with every room, and reads the file back.
+    pub fn input(&mut self, case: &InputCase, what: &str) {
+        self.inputs += 1;
+        write::compare(case, what, &mut self.written);
+    }
+
     /// Compares all calls about a file. Of a large one only some facilities and changes are asked about.
     pub fn file(&mut self, file: &[u8], what: &str) {
         let (facilities, changes) = match file.len() {
@@ -138,8 +152,10 @@ impl Compared {
         let judged = judged.map(|(number, count)| ("judge", *number, u64::from(*count)));
         let stray = self.stray.answers.iter();
         let stray = stray.map(|(number, count)| ("stray", *number, *count));
+        let written = self.written.answers.iter();
+        let written = written.map(|(number, count)| ("write", *number, *count));
         let others = self.questions.answers().chain(self.walks.answers());
-        for (call, number, count) in judged.chain(stray).chain(others) {
+        for (call, number, count) in judged.chain(stray).chain(others).chain(written) {
             *answers.entry((call, number)).or_default() += count;
         }
         answers
@@ -158,6 +174,11 @@ impl Compared {
             ("accepted files with stray bytes", self.stray.with),
             ("accepted files without stray bytes", self.stray.without),
         ]
+    }
+
+    /// How many inputs of each origin were written, and what the files had that were read back.
+    pub fn written(&self) -> Vec<(String, u64)> {
+        self.written.met()
     }
 
     /// How many times zero deltas of the times were met: in accepted files, and where it shows which of the

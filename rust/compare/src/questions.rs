@@ -25,12 +25,12 @@ pub const QUESTIONS: [&str; 6] = [
 const NAME_ROOMS: [usize; 4] = [1_022, 1_023, 1_032, 0];
 
 /// A buffer of marks, none of them a symbol, with a lent part of `room` bytes in its middle.
-fn marked(room: usize) -> Vec<u8> {
+pub(crate) fn marked(room: usize) -> Vec<u8> {
     let mark = |at: usize| 0x80 | (at * 37 + 5) as u8;
     (0..AROUND + room + AROUND).map(mark).collect()
 }
 
-fn lent(buffer: &mut [u8]) -> &mut [u8] {
+pub(crate) fn lent(buffer: &mut [u8]) -> &mut [u8] {
     let end = buffer.len() - AROUND;
     &mut buffer[AROUND..end]
 }
@@ -48,7 +48,7 @@ pub const ALL: Most = Most {
 };
 
 /// At most so many of a list, evenly, with its first and last one.
-fn sample<T: Copy>(list: &[T], most: usize) -> Vec<T> {
+pub(crate) fn sample<T: Copy>(list: &[T], most: usize) -> Vec<T> {
     if list.len() <= most {
         return list.to_vec();
     }

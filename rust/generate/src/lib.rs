@@ -1,5 +1,5 @@
 //! Deterministic trace files for comparing readers: valid ones, neighbours of every rule's boundary,
-//! and hostile ones. A seed always gives the same file.
+//! and hostile ones; and such inputs of writers. A seed always gives the same.
 
 #![forbid(unsafe_code)]
 
@@ -10,6 +10,7 @@ mod dense;
 mod draft;
 mod edges;
 mod hostile;
+mod inputs;
 mod joined;
 mod large;
 mod random;
@@ -26,6 +27,10 @@ pub use dense::dense;
 pub use draft::{change_bytes, Change, Draft, Facility, Kind, Meant};
 pub use edges::{edges, WINDOW};
 pub use hostile::{hostile, hostile_chains, hostile_large, most_visits, widest_sharing, Hostile};
+pub use inputs::{
+    input_case, nonsense_input, sound_input, Input, InputCase, InputDamage, InputNeighbours, BITS,
+    INPUT_DAMAGES, INTEGER, REAL, TEXT,
+};
 pub use joined::joined;
 pub use large::{large, large_with_gaps, Large};
 pub use random::Random;

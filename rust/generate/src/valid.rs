@@ -279,7 +279,7 @@ fn root_facility(random: &mut Random, number: usize, shape: &Shape) -> Facility 
 }
 
 /// A name that often shares its first bytes with the one before.
-fn name(random: &mut Random, before: &[u8]) -> Vec<u8> {
+pub fn name(random: &mut Random, before: &[u8]) -> Vec<u8> {
     match random.below(20) {
         0 => Vec::new(),
         1 | 2 => before.to_vec(),

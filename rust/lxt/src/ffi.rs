@@ -6,11 +6,11 @@
 //! - **Declared alike**: the declarations are those of the header, argument for argument.
 //! - **Valid**: a pointer is to memory that can be read, and written where it is not `const`, during the
 //!   whole call. Each one comes from a slice, an array or a reference that is borrowed for the call.
-//! - **Length**: the length beside a pointer counts the objects behind it, bytes, pairs or numbers. Both come
-//!   from one slice. That of an empty slice is no null pointer, and nothing is behind it.
+//! - **Length**: the length beside a pointer counts the objects behind it, bytes, pairs, numbers or rows. Both
+//!   come from one slice. That of an empty slice is no null pointer, and nothing is behind it.
 //! - **Fixed sizes**: a pointer without a length is to one object of its type, a number or a struct.
 //! - **Aligned**: a pointer is aligned as its type is, and no more. Rust's slices and references are, and
-//!   [`Pair`] and the structs of [`c`] have the layout of C's.
+//!   [`Pair`], [`NewFacility`], [`NewChange`] and the structs of [`c`] have the layout of C's.
 //! - **No overlap**: nothing that is written is reached by another pointer. Each such pointer comes from
 //!   a `&mut`, which Rust gives to nothing else at the time:
 //!
@@ -21,11 +21,11 @@
 //! - **Nothing kept**: no pointer is used after the call, and calls share no memory but what both were
 //!   lent, so they can be made from any thread.
 
-use crate::Pair;
+use crate::{NewChange, NewFacility, Pair};
 
 /// The header in Rust: its structs, field for field, and its functions.
 pub(crate) mod c {
-    use crate::Pair;
+    use crate::{NewChange, NewFacility, Pair};
 
     #[repr(C)]
     #[derive(Clone, Copy, Debug, Default, PartialEq, Eq)]
@@ -128,6 +128,21 @@ pub(crate) mod c {
             output: *mut u32,
             output_room: usize,
             handed: *mut Handed,
+        ) -> u32;
+        pub fn lxt_write(
+            facilities: *const NewFacility,
+            facility_count: usize,
+            names: *const u8,
+            names_length: usize,
+            changes: *const NewChange,
+            change_count: usize,
+            values: *const u8,
+            values_length: usize,
+            initial: u8,
+            timescale: i8,
+            out: *mut u8,
+            room: usize,
+            length: *mut u32,
         ) -> u32;
     }
 }
@@ -298,6 +313,40 @@ pub(crate) fn carry_on(
             output.as_mut_ptr(),
             output.len(),
             handed as *mut c::Handed,
+        )
+    }
+}
+
+/// What a writer is given, besides where the file is to stand.
+#[derive(Clone, Copy)]
+pub(crate) struct Given<'a> {
+    pub facilities: &'a [NewFacility],
+    pub names: &'a [u8],
+    pub changes: &'a [NewChange],
+    pub values: &'a [u8],
+    pub initial: u8,
+    pub timescale: i8,
+}
+
+/// The file in the first bytes of the lent ones, and its length; 0 or the refusal's number.
+pub(crate) fn write(given: Given, out: &mut [u8], length: &mut u32) -> u32 {
+    // SAFETY: the pointers and lengths of the five slices are their own, a facility and a change have the
+    // layout of C's, and the two `&mut` are not aliased.
+    unsafe {
+        c::lxt_write(
+            given.facilities.as_ptr(),
+            given.facilities.len(),
+            given.names.as_ptr(),
+            given.names.len(),
+            given.changes.as_ptr(),
+            given.changes.len(),
+            given.values.as_ptr(),
+            given.values.len(),
+            given.initial,
+            given.timescale,
+            out.as_mut_ptr(),
+            out.len(),
+            length as *mut u32,
         )
     }
 }

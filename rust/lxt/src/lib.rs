@@ -1,7 +1,7 @@
-//! Safe bindings to the proved reader of LXT traces.
+//! Safe bindings to the proved reader and writer of LXT traces.
 //!
-//! [`Trace`] is the way to ask a file that is in memory, and [`Refusal`] what any bytes or question may
-//! be answered instead:
+//! [`Trace`] is the way to ask a file that is in memory, [`Writer`] the way to make one, and [`Refusal`] what
+//! any bytes or question may be answered instead:
 //!
 //! ```
 //! use lxt::Trace;
@@ -24,9 +24,9 @@
 //! ```
 //!
 //! Under it stand the functions of the C interface with slices for pointers: [`judge`], [`stray_bytes`],
-//! [`facts`], [`root`], [`name`], [`change_before`], [`change`], [`value_at`], [`start_walk`] and [`carry_on`].
-//! They take any bytes, keep nothing between calls and allocate nothing. Each judges the file anew, whatever was asked
-//! before; only `carry_on` checks less of it, its tables and the changes that are still to come. So many
+//! [`facts`], [`root`], [`name`], [`change_before`], [`change`], [`value_at`], [`start_walk`], [`carry_on`] and
+//! [`write`](fn@write). They take any bytes, keep nothing between calls and allocate nothing. Each that reads judges the
+//! file anew, whatever was asked before; only `carry_on` checks less of it, its tables and the changes that are still to come. So many
 //! questions on one large file cost many times its judging, as docs/PERFORMANCE.md has it in figures: to
 //! read all changes of a large trace, walk, and do not ask for each of them.
 //!
@@ -60,9 +60,11 @@
 mod ffi;
 mod refusal;
 mod trace;
+mod writer;
 
 pub use refusal::Refusal;
 pub use trace::{Change, Reading, Trace, Walk};
+pub use writer::{NewValue, Rule, WriteError, Writer};
 
 use ffi::c;
 use refusal::accepted;
@@ -198,7 +200,13 @@ pub fn stray_bytes(file: &[u8]) -> Result<u32, Refusal> {
     Ok(stray)
 }
 
-/// The room that asking for a name needs, in bytes.
+/// The length of the longest file, in bytes. With so much room every file can be written.
+pub const LONGEST_FILE: usize = 16_777_216;
+
+/// The most facilities that a file has.
+pub const MOST_FACILITIES: usize = 4_096;
+
+/// The room that asking for a name needs, in bytes; no name is longer.
 pub const NAME_ROOM: usize = 1_023;
 
 /// The room that any value of bits has, in bytes.
@@ -304,4 +312,66 @@ pub fn carry_on(
     let mut handed = c::Handed::default();
     accepted(ffi::carry_on(file, pairs, size, output, &mut handed))?;
     Ok((handed.count, handed.done != 0))
+}
+
+/// A facility that is to be written, laid out as in C.
+#[repr(C)]
+#[derive(Clone, Copy, Debug, Default, PartialEq, Eq)]
+pub struct NewFacility {
+    /// Where its name starts in the lent names.
+    pub name_start: u32,
+    /// The length of its name: up to 1,023 bytes, none of them 0.
+    pub name_length: u32,
+    /// 0 bits, 1 an integer, 2 a real, 3 a text.
+    pub kind: u32,
+    /// Of bits the number of the first symbol; they have |msb - lsb| + 1 symbols, up to 4,096. Of the other
+    /// kinds msb and lsb may be any: 31 and 0 are written for an integer, 0 and 0 for a real or a text.
+    pub msb: i32,
+    /// Of bits the number of the last symbol.
+    pub lsb: i32,
+}
+
+/// A change that is to be written, laid out as in C.
+#[repr(C)]
+#[derive(Clone, Copy, Debug, Default, PartialEq, Eq)]
+pub struct NewChange {
+    /// The number of its facility: the place among the facilities.
+    pub facility: u32,
+    /// Its time, not below that of the change before it.
+    pub time: u32,
+    /// Where its value starts in the lent values.
+    pub value_start: u32,
+    /// The length of its value: of bits and integers as many symbols, in ASCII, as they are wide; of a real its
+    /// eight bytes, the lowest first; of a text its bytes, none of them 0.
+    pub value_length: u32,
+}
+
+/// Writes a trace into the first bytes of `out` and answers its length; later bytes stay.
+///
+/// Names and values are parts of the lent names and values, which may overlap or be shared. The changes stand
+/// in the file in the order in which they are given. `initial` is the code of the symbol that bits and
+/// integers have before their first change, 0 to 8, and `timescale` is -21 to 2.
+///
+/// What breaks a rule is [`Refusal::WriterInput`], and a file that has more bytes than `out` is
+/// [`Refusal::WriterRoom`]; then nothing is written. [`Writer`] says which rule it is, and where.
+pub fn write(
+    facilities: &[NewFacility],
+    names: &[u8],
+    changes: &[NewChange],
+    values: &[u8],
+    initial: u8,
+    timescale: i8,
+    out: &mut [u8],
+) -> Result<u32, Refusal> {
+    let given = ffi::Given {
+        facilities,
+        names,
+        changes,
+        values,
+        initial,
+        timescale,
+    };
+    let mut length = 0;
+    accepted(ffi::write(given, out, &mut length))?;
+    Ok(length)
 }

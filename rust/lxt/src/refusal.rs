@@ -1,4 +1,4 @@
-//! The 22 refusals.
+//! The refusals: 1 to 22 of reading, 24 and 25 of writing.
 
 use std::fmt;
 
@@ -8,8 +8,8 @@ macro_rules! refusals {
         /// Why a call was refused: the first rule that the file or the question breaks, in the order of the
         /// numbers. A refused call has changed nothing that was lent to it.
         ///
-        /// 1 to 17 are about the file, the others about the question. The rules behind them, with an example
-        /// of each, are in docs/FORMAT.md.
+        /// 1 to 17 are about the file, 18 to 22 about the question, 24 and 25 about what is to be written. The
+        /// rules behind them, with an example of each, are in docs/FORMAT.md.
         #[derive(Clone, Copy, Debug, PartialEq, Eq, Hash, PartialOrd, Ord)]
         #[repr(u8)]
         #[non_exhaustive]
@@ -57,18 +57,20 @@ refusals! {
     20 Record "in the walk's record a pair has a wrong number, or a pending offset that is an alias's or from which the changes downwards break a rule of 15 or 16"
     21 Room "too little room was lent: names need 1,023 bytes, bits the width, a record a pair for each facility, an output two numbers for each change"
     22 Asked "the asked bytes are not one for each facility"
+    24 WriterInput "the input of the writer breaks a limit or a rule, or its file would have more than 16,777,216 bytes"
+    25 WriterRoom "the file that is to be written has more bytes than the room that was lent"
 }
 
 impl Refusal {
-    /// 1 to 22.
+    /// 1 to 22, 24 or 25.
     pub const fn number(self) -> u8 {
         self as u8
     }
 
-    /// The refusal of a number; none but for 1 to 22.
+    /// The refusal of a number; none but for 1 to 22, 24 and 25.
     pub fn of_number(number: u8) -> Option<Refusal> {
-        let place = usize::from(number).checked_sub(1)?;
-        Refusal::ALL.get(place).copied()
+        let mut all = Refusal::ALL.iter().copied();
+        all.find(|refusal| refusal.number() == number)
     }
 
     /// Whether the file was refused, whatever was asked.
@@ -92,7 +94,7 @@ pub(crate) fn accepted(number: u32) -> Result<(), Refusal> {
         number => Err(u8::try_from(number)
             .ok()
             .and_then(Refusal::of_number)
-            .expect("the proved functions answer 0 to 22")),
+            .expect("the proved functions answer 0 or a refusal's number")),
     }
 }
 
@@ -101,16 +103,17 @@ mod tests {
     use super::{accepted, Refusal};
 
     #[test]
-    fn the_numbers_are_1_to_22() {
+    fn the_numbers_are_1_to_22_and_24_and_25() {
         let numbers = Refusal::ALL.iter().map(|it| it.number());
-        assert_eq!(Vec::from_iter(numbers), Vec::from_iter(1..=22));
+        let expected = (1..=22).chain([24, 25]);
+        assert_eq!(Vec::from_iter(numbers), Vec::from_iter(expected));
         for &refusal in Refusal::ALL {
             assert_eq!(Refusal::of_number(refusal.number()), Some(refusal));
             assert_eq!(accepted(refusal.number().into()), Err(refusal));
             assert_eq!(refusal.is_of_file(), refusal <= Refusal::SharedByte);
         }
         assert_eq!(accepted(0), Ok(()));
-        for number in [0, 23, 255] {
+        for number in [0, 23, 26, 255] {
             assert_eq!(Refusal::of_number(number), None);
         }
     }

@@ -9,6 +9,8 @@ use std::process::{Command, Stdio};
 use std::thread;
 
 use lxt_compare::times::Entries;
+use lxt_compare::write::{examples, proved, Rows};
+use lxt_generate::{Input, Random, BITS, INTEGER, REAL};
 use lxt_reference::Judged;
 
 #[allow(dead_code)]
@@ -95,6 +97,61 @@ fn prints_the_examples_of_64_bit_times() {
         let printed = String::from_utf8(printed).expect("text");
         assert_eq!(printed, example.lines(), "{}", example.name);
     }
+}
+
+/// The lines of the first worked example of writing, and of generated inputs, as they were given: the facilities,
+/// then the changes from the last to the first.
+#[test]
+fn prints_what_was_written() {
+    let [first, ..] = examples();
+    let lines = "facility 0 a bits 1\nchange 0 6 5 0\nchange 0 4 0 1\ndone 2\n";
+    assert_eq!(String::from_utf8_lossy(&printed(&first.file)), lines);
+    let mut compared = 0;
+    for seed in 0..400 {
+        let input = lxt_generate::sound_input(&mut Random::new(seed));
+        let rows = Rows::of(&input);
+        let mut out = vec![0; LONGEST];
+        let Ok(length) = proved(&input, &rows, &mut out) else {
+            continue;
+        };
+        let file = &out[..length as usize];
+        assert!(printed(file) == lines_of(&input, file), "seed {seed}");
+        compared += 1;
+    }
+    assert!(compared > 300, "{compared}");
+}
+
+/// The lines that the program is to print of an input and the file that was written of it. Only the offsets are
+/// the file's.
+fn lines_of(input: &Input, file: &[u8]) -> Vec<u8> {
+    let mut lines = Vec::new();
+    for (facility, row) in input.facilities.iter().enumerate() {
+        let kind = ["bits", "integer", "real", "text"][row[2] as usize];
+        lines.extend(format!("facility {facility} ").bytes());
+        lines.extend(input.name_of(facility));
+        lines.extend(format!(" {kind} {}\n", input.width_of(facility)).bytes());
+    }
+    let judged = Judged::new(file).expect("an accepted file");
+    let all = judged.full_list(&vec![1; input.facilities.len()]);
+    let all = all.expect("a list");
+    let given = input.changes.iter().enumerate().rev();
+    for ((place, [facility, time, ..]), (_, offset)) in given.zip(&all) {
+        lines.extend(format!("change {facility} {offset} {time} ").bytes());
+        let value = input.value_of(place);
+        match input.facilities[*facility as usize][2] {
+            BITS | INTEGER => lines.extend(value),
+            // The highest byte first.
+            REAL => lines.extend(value.iter().rev().flat_map(|it| hexadecimal(*it))),
+            _ => lines.extend(value.iter().flat_map(|it| hexadecimal(*it))),
+        }
+        lines.push(b'\n');
+    }
+    lines.extend(format!("done {}\n", all.len()).bytes());
+    lines
+}
+
+fn hexadecimal(byte: u8) -> Vec<u8> {
+    format!("{byte:02x}").into_bytes()
 }
 
 #[test]

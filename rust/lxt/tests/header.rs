@@ -9,6 +9,7 @@ use std::process::Command;
 use lxt_compare::judge::TRACE;
 use lxt_compare::times::small_trace_09;
 use lxt_compare::traces;
+use lxt_compare::write::examples;
 use lxt_reference::{Judged, Value};
 
 #[allow(dead_code)]
@@ -337,6 +338,17 @@ FIELD(lxt_handed, done, 4, 4);
 ASSERT(sizeof(lxt_pair) == 2 * sizeof(uint32_t));
 FIELD(lxt_pair, number, 0, 4);
 FIELD(lxt_pair, offset, 4, 4);
+ASSERT(sizeof(lxt_new_facility) == 5 * sizeof(uint32_t));
+FIELD(lxt_new_facility, name_start, 0, 4);
+FIELD(lxt_new_facility, name_length, 4, 4);
+FIELD(lxt_new_facility, kind, 8, 4);
+FIELD(lxt_new_facility, msb, 12, 4);
+FIELD(lxt_new_facility, lsb, 16, 4);
+ASSERT(sizeof(lxt_new_change) == 4 * sizeof(uint32_t));
+FIELD(lxt_new_change, facility, 0, 4);
+FIELD(lxt_new_change, time, 4, 4);
+FIELD(lxt_new_change, value_start, 8, 4);
+FIELD(lxt_new_change, value_length, 12, 4);
 ASSERT(LXT_SHORTEST_FILE == 6 && LXT_LONGEST_FILE == 16777216);
 ASSERT(LXT_MOST_FACILITIES == 4096 && LXT_LONGEST_NAME == 1023 && LXT_WIDEST == 4096);
 ASSERT(sizeof(LXT_SYMBOLS) == 9 + 1);
@@ -346,6 +358,8 @@ uint32_t (*const stray)(const uint8_t *, size_t, uint32_t *) = lxt_stray;
 uint32_t (*const change)(const uint8_t *, size_t, uint32_t, uint32_t, uint8_t *, size_t, int64_t *, lxt_value *,
                          uint32_t *) = lxt_change;
 uint32_t (*const value_at)(const uint8_t *, size_t, uint32_t, int64_t, uint8_t *, size_t, lxt_value *) = lxt_value_at;
+uint32_t (*const write)(const lxt_new_facility *, size_t, const uint8_t *, size_t, const lxt_new_change *, size_t,
+                        const uint8_t *, size_t, uint8_t, int8_t, uint8_t *, size_t, uint32_t *) = lxt_write;
 
 int main(void) {
     static const uint8_t file[7] = {0};
@@ -444,6 +458,78 @@ fn a_null_pointer_with_length_0_is_an_empty_slice() {
         "0 0 0 0 21 0 21 21 21 22 21 21 0 21",
         "0 0 18 18 18 18 18 18 0 0 22 0 0 21",
         "0 0 0 0 21 19 19 0 21 22 21 21 0 21",
+    ];
+    let printed = String::from_utf8_lossy(&ran.stdout);
+    assert_eq!(Vec::from_iter(printed.lines()), expected);
+}
+
+/// Writes one bit that becomes 1 at time 0 and 0 at time 5, prints the file, and reads it. Then the refusals, and
+/// nothing at all from null pointers.
+const WRITING: &str = r#"
+#include "lxt.h"
+#include <stdio.h>
+
+static const lxt_new_facility facilities[] = {{0, 1, LXT_BITS, 0, 0}};
+static const lxt_new_change changes[] = {{0, 0, 0, 1}, {0, 5, 1, 1}};
+static const uint8_t names[] = "a", values[] = "10";
+static uint8_t file[1000];
+
+static uint32_t written(size_t count, int8_t timescale, size_t room, uint32_t *length) {
+    return lxt_write(facilities, 1, names, 1, changes, count, values, 2, 3, timescale, file, room, length);
+}
+
+int main(void) {
+    uint32_t length = 77, number, size, clean, i, offset[] = {4, 6};
+    lxt_summary summary;
+    lxt_facility facts;
+    lxt_value value;
+    int8_t timescale;
+    int32_t msb, lsb;
+    int64_t time;
+    uint8_t bits[1], name[LXT_LONGEST_NAME];
+    number = written(2, 3, sizeof file, &length);
+    printf("%d %lu\n", number == LXT_REFUSED_WRITER_INPUT, (unsigned long)length);
+    number = written(2, -9, 106, &length);
+    printf("%d %lu %d\n", number == LXT_REFUSED_WRITER_ROOM, (unsigned long)length, file[0]);
+    number = written(2, -9, 107, &length);
+    printf("%lu %lu\n", (unsigned long)number, (unsigned long)length);
+    for (i = 0; i < length; i++) printf("%02X", file[i]);
+    printf("\n%lu", (unsigned long)lxt_judge(file, length, &summary, &timescale));
+    printf(" %lu %c %d %lu", (unsigned long)summary.facilities, LXT_SYMBOLS[summary.initial], timescale,
+           (unsigned long)summary.clean);
+    lxt_facts(file, length, 0, &facts, &msb, &lsb);
+    lxt_name(file, length, 0, name, sizeof name, &size);
+    printf(" %.*s %lu\n", (int)size, (const char *)name, (unsigned long)facts.width);
+    for (i = 0; i < 2; i++) {
+        lxt_change(file, length, 0, offset[i], bits, 1, &time, &value, &clean);
+        printf("%lld %c %lu\n", (long long)time, bits[0], (unsigned long)clean);
+    }
+    number = lxt_write(NULL, 0, NULL, 0, NULL, 0, NULL, 0, 9, 0, NULL, 0, &length);
+    printf("%lu", (unsigned long)number);
+    number = lxt_write(NULL, 0, NULL, 0, NULL, 0, NULL, 0, 0, 0, NULL, 0, &length);
+    printf(" %lu", (unsigned long)number);
+    number = lxt_write(NULL, 0, NULL, 0, NULL, 0, NULL, 0, 0, 0, file, 63, &length);
+    printf(" %lu %lu\n", (unsigned long)number, (unsigned long)length);
+    return 0;
+}
+"#;
+
+#[test]
+fn a_c_program_writes_a_trace_and_reads_it() {
+    let program = made("writing", "cc", "-std=c99", WRITING);
+    let ran = Command::new(&program).output().expect("a run");
+    assert!(ran.status.success(), "{:?}", ran.status);
+    let [first, ..] = examples();
+    let bytes = first.file.iter().map(|byte| format!("{byte:02X}"));
+    let expected = [
+        "1 77",
+        "1 77 0",
+        "0 107",
+        &bytes.collect::<String>(),
+        "0 1 X -9 1 a 1",
+        "0 1 1",
+        "5 0 1",
+        "24 25 0 63",
     ];
     let printed = String::from_utf8_lossy(&ran.stdout);
     assert_eq!(Vec::from_iter(printed.lines()), expected);

@@ -1,5 +1,6 @@
 //! Which refusals the compared calls give: every one that a call can give, and no other; that padding is
-//! both clean and dirty, that there are stray bytes and none, and that zero deltas and 64-bit times show.
+//! both clean and dirty, that there are stray bytes and none, that zero deltas and 64-bit times show, and that
+//! inputs of all kinds are written.
 
 use std::collections::BTreeSet;
 
@@ -11,12 +12,16 @@ fn each_call_gives_every_refusal_that_it_can_and_no_other() {
     for (what, file) in generated(200_000..204_000, usize::MAX) {
         compared.file(&file, &what);
     }
+    for seed in 200_000..206_000 {
+        let case = lxt_generate::input_case(seed);
+        compared.input(&case, &format!("seed {seed}, {}", case.origin));
+    }
     let answers = compared.answers();
     let mut given = BTreeSet::new();
     for call in CALLS {
         let count = |number: u8| answers.get(&(call, number)).copied().unwrap_or(0);
         let counts = Vec::from_iter((0..=u8::MAX).map(count));
-        println!("{call:>13} {:?}", &counts[..=22]);
+        println!("{call:>13} {:?}", &counts[..=25]);
         assert!(counts[0] >= 1_000, "{call} was answered {}", counts[0]);
         for number in 1..=u8::MAX {
             let count = counts[usize::from(number)];
@@ -29,7 +34,7 @@ fn each_call_gives_every_refusal_that_it_can_and_no_other() {
             }
         }
     }
-    assert_eq!(given, BTreeSet::from_iter(1..=22));
+    assert_eq!(given, BTreeSet::from_iter((1..=22).chain([24, 25])));
     // And both answers about padding, of judging and of changes.
     for (call, counts) in compared.padding() {
         println!("{call:>13} padding {counts:?}");
@@ -43,5 +48,10 @@ fn each_call_gives_every_refusal_that_it_can_and_no_other() {
     for (what, count) in met.chain(compared.long_times()) {
         println!("{count:>13} {what}");
         assert!(count >= 200, "{what}: {count}");
+    }
+    // And inputs on both sides of each boundary of writing, and changes of all kinds.
+    for (what, count) in compared.written() {
+        println!("{count:>13} {what}");
+        assert!(count >= 10, "{what}: {count}");
     }
 }

@@ -3,6 +3,7 @@
 
 use lxt::{Pair, Refusal};
 use lxt_compare::judge::TRACE;
+use lxt_compare::write::{examples, Rows};
 
 const FORMAT: &str = include_str!("../../../docs/FORMAT.md");
 const HEADER: &str = include_str!("../../../include/lxt.h");
@@ -136,6 +137,8 @@ fn the_examples_are_refused_as_the_table_says() {
         "a record whose first pair has the number 1",
         "a name with 1,022 bytes of room",
         "a walk with two asked bytes",
+        "these changes written with a timescale of 3",
+        "these changes written into 106 bytes: the file has 107",
     ];
     assert_eq!(examples[17..], expected);
     assert_eq!(lxt::root(&TRACE, 1), Err(Refusal::NoFacility));
@@ -151,4 +154,21 @@ fn the_examples_are_refused_as_the_table_says() {
     assert_eq!(name, Err(Refusal::Room));
     let started = lxt::start_walk(&TRACE, &[1, 1], &mut record);
     assert_eq!(started, Err(Refusal::Asked));
+}
+
+/// The last two examples: the changes of the trace, which are written as they stand in it.
+#[test]
+fn the_examples_of_writing_are_refused_as_the_table_says() {
+    let [first, ..] = examples();
+    assert_eq!(first.file[..68], TRACE[..68]);
+    let (input, rows) = (&first.input, Rows::of(&first.input));
+    let write = |timescale, room: usize| {
+        let (facilities, changes) = (&rows.facilities, &rows.changes);
+        let (names, values) = (&input.names, &input.values);
+        let mut out = vec![0; room];
+        lxt::write(facilities, names, changes, values, 3, timescale, &mut out)
+    };
+    assert_eq!(write(-9, 107), Ok(107));
+    assert_eq!(write(3, 107), Err(Refusal::WriterInput));
+    assert_eq!(write(-9, 106), Err(Refusal::WriterRoom));
 }

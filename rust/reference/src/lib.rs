@@ -1,9 +1,10 @@
-//! A plain reader of LXT traces, written from the rules of paper 01 and Asks 1, 2 and 6 of paper 02
-//! alone, and from the definition of stray bytes that stands in `stray`.
+//! A plain reader and writer of LXT traces, written from the rules of paper 01 and Asks 1, 2, 5 and 6 of
+//! paper 02 alone, and from the definition of stray bytes that stands in `stray`.
 //!
-//! It exists to be compared, call by call, with another reader. So it follows the paper's order of
-//! checks, uses memory freely and judges the whole file again in every call. A refusal is its
-//! number, 1 to 22, and changes nothing lent.
+//! They exist to be compared, call by call, with others. So the reader follows the paper's order of
+//! checks, uses memory freely and judges the whole file again in every call. The writer is also what
+//! another is measured against: it is plain, and fast. A refusal is its number, 1 to 22 of the reader, 24 and 25
+//! of the writer, and changes nothing lent.
 
 #![forbid(unsafe_code)]
 
@@ -13,6 +14,7 @@ mod questions;
 mod stray;
 mod tables;
 mod walk;
+mod write;
 
 #[cfg(test)]
 mod tests;
@@ -24,6 +26,7 @@ pub use questions::{
 };
 pub use stray::stray_bytes;
 pub use walk::{carry_on, full_list, start_walk, Downwards, RecordFault, Tables};
+pub use write::write;
 
 /// The limits of a file's length, in bytes.
 pub const SHORTEST_FILE: usize = 6;

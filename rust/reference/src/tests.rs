@@ -2,6 +2,7 @@
 
 mod stray;
 mod wide_times;
+mod write;
 
 use crate::*;
 

@@ -1,4 +1,5 @@
-//! Compares all calls about new generated files for so many seconds, or from a seed on:
+//! Compares all calls about new generated files, and writing generated inputs, for so many seconds, or from a
+//! seed on:
 //!
 //! ```text
 //! cargo run --release --offline -p lxt-compare -- SECONDS [SEED]
@@ -32,39 +33,54 @@ fn main() {
         let case = lxt_generate::case(seed);
         let what = format!("seed {seed}, {}", case.origin);
         compared.file(&case.bytes, &what);
+        let case = lxt_generate::input_case(seed);
+        let what = format!("seed {seed}, {}", case.origin);
+        compared.input(&case, &what);
         seed = seed.wrapping_add(1);
     }
 
     let answers = compared.answers();
     let calls: u64 = answers.values().sum();
     println!(
-        "{} files, {calls} calls compared, all alike",
-        compared.files
+        "{} files, {} inputs, {calls} calls compared, all alike",
+        compared.files, compared.inputs
     );
-    println!("{:>13}  answered, then refused 1 to 22", "");
+    println!("{:>13}  answered, then refused 1 to 25", "");
     for call in CALLS {
-        let counts = (0..=22).map(|number| answers.get(&(call, number)).unwrap_or(&0).to_string());
+        let counts = (0..=25).map(|number| answers.get(&(call, number)).unwrap_or(&0).to_string());
         println!("{call:>13}  {}", Vec::from_iter(counts).join(" "));
     }
-    let padding = compared.padding();
-    for (call, [clean, dirty]) in padding {
-        println!("{call:>13}  padding clean {clean}, dirty {dirty}");
-    }
-    let met = compared.stray().into_iter();
-    let met = met.chain(compared.zero_deltas());
-    let met = Vec::from_iter(met.chain(compared.long_times()));
-    for (what, count) in &met {
-        println!("{count:>13}  {what}");
-    }
-    // So many files have all of it; else the run says nothing about padding, stray bytes or such times.
-    let mut missing = Vec::new();
-    if padding.iter().any(|(_, counts)| counts.contains(&0)) {
-        missing.push("clean and dirty padding");
-    }
-    let unmet = met.iter().filter(|(_, count)| *count == 0);
-    missing.extend(unmet.map(|(what, _)| *what));
-    if compared.files >= 1_000 && !missing.is_empty() {
+    let missing = missing(&compared);
+    if !missing.is_empty() {
         eprintln!("did not occur: {}", missing.join(", "));
         std::process::exit(1);
     }
+}
+
+/// Prints what occurred, and gives what did not although there were enough files or inputs: then the run says
+/// nothing about padding, stray bytes, such times or what was written.
+fn missing(compared: &Compared) -> Vec<String> {
+    let mut missing = Vec::new();
+    let enough = compared.files >= 1_000;
+    for (call, counts) in compared.padding() {
+        let [clean, dirty] = counts;
+        println!("{call:>13}  padding clean {clean}, dirty {dirty}");
+        if enough && counts.contains(&0) {
+            missing.push(format!("clean and dirty padding of {call}"));
+        }
+    }
+    let met = compared.stray().into_iter();
+    let met = met.chain(compared.zero_deltas());
+    let met = met.chain(compared.long_times());
+    let met = met.map(|(what, count)| (what.to_string(), count, enough));
+    let enough = compared.inputs >= 5_000;
+    let written = compared.written().into_iter();
+    let written = written.map(|(what, count)| (what, count, enough));
+    for (what, count, enough) in met.chain(written) {
+        println!("{count:>13}  {what}");
+        if enough && count == 0 {
+            missing.push(what);
+        }
+    }
+    missing
 }

@@ -6,8 +6,9 @@ use std::ffi::{c_int, c_void};
 use std::marker::PhantomData;
 
 use super::c::{Facility, Handed, Summary, Value};
-use super::tests::{handed, numbers, shape};
-use crate::Pair;
+use super::tests::{handed, numbers, rows, shape, Rows};
+use super::Given;
+use crate::{NewChange, NewFacility, Pair};
 use lxt_generate::Random;
 use lxt_reference::Judged;
 
@@ -358,6 +359,70 @@ fn calls_stay_within_what_they_are_lent() {
     }
     assert!(calls > 200_000, "{calls}");
     assert!(accepted > 800, "{accepted}");
+}
+
+/// Guarded memory for what writing is lent.
+struct WritingLent {
+    facilities: Guarded<NewFacility>,
+    names: Guarded<u8>,
+    changes: Guarded<NewChange>,
+    values: Guarded<u8>,
+    out: Guarded<u8>,
+    length: Guarded<u32>,
+}
+
+impl WritingLent {
+    /// With room for each of these.
+    fn new(all: &[Rows]) -> Self {
+        let most = |of: fn(&Given) -> usize| all.iter().map(|it| of(&it.given())).max();
+        let most = |of| most(of).unwrap_or(0);
+        WritingLent {
+            facilities: Guarded::new(most(|it| it.facilities.len())),
+            names: Guarded::new(most(|it| it.names.len())),
+            changes: Guarded::new(most(|it| it.changes.len())),
+            values: Guarded::new(most(|it| it.values.len())),
+            out: Guarded::new(1 << 20),
+            length: Guarded::new(1),
+        }
+    }
+
+    /// Writes with guarded memory and so much room, compared with the independent writer. Gives the answer.
+    fn write(&mut self, rows: &Rows, room: usize, place: Place) -> u32 {
+        let given = rows.given();
+        let given = Given {
+            facilities: self.facilities.lend_to_read(given.facilities, place),
+            names: self.names.lend_to_read(given.names, place),
+            changes: self.changes.lend_to_read(given.changes, place),
+            values: self.values.lend_to_read(given.values, place),
+            ..given
+        };
+        let mut marked = vec![0xA5; room];
+        let out = self.out.lend(&marked, place);
+        let length = &mut self.length.lend(&[MARK], place)[0];
+        let number = super::write(given, out, length);
+        assert_eq!((number, *length), after(rows.expected(&mut marked), MARK));
+        assert!(out == marked);
+        number
+    }
+}
+
+#[test]
+fn writing_stays_within_what_it_is_lent() {
+    let cases = (400_000..401_500).map(lxt_generate::input_case);
+    let cases = Vec::from_iter(cases.map(|case| rows(case.input)));
+    let mut lent = WritingLent::new(&cases);
+    let mut written = 0;
+    for (place, rows) in cases.iter().enumerate() {
+        // Shown where a signal ends the run and the output is not captured.
+        println!("seed {}", 400_000 + place);
+        let exact = rows.expected(&mut vec![0; 1 << 20]).unwrap_or(200) as usize;
+        for room in [0, exact - 1, exact] {
+            for place in [Place::First, Place::Last] {
+                written += u32::from(lent.write(rows, room, place) == 0);
+            }
+        }
+    }
+    assert!(written > 1_000, "{written}");
 }
 
 /// What the test below does in a process of its own; each is to end it.

@@ -2,7 +2,7 @@ use std::collections::BTreeMap;
 
 use super::c::{self, Facility, Handed, Summary};
 use super::judge;
-use crate::Pair;
+use crate::{NewChange, NewFacility, Pair};
 use lxt_reference::{Judged, Value};
 
 // ---- Declared alike ----
@@ -23,6 +23,8 @@ fn rust_type(words: &str) -> String {
         "lxt_facility" => "Facility".to_string(),
         "lxt_value" => "Value".to_string(),
         "lxt_handed" => "Handed".to_string(),
+        "lxt_new_facility" => "NewFacility".to_string(),
+        "lxt_new_change" => "NewChange".to_string(),
         _ => {
             let number = words.strip_suffix("_t").expect("a number's type");
             let number = number.replace("uint", "u").replace("int", "i");
@@ -49,13 +51,13 @@ fn the_declarations_are_those_of_the_header() {
     let ours = joined(include_str!("../ffi.rs")).replace(", ) ->", " ) ->");
     let ours = ours.replace("( ", "(").replace(" )", ")");
 
-    // The pair is public, with words at its fields.
-    let pair = include_str!("../lib.rs").lines();
-    let pair = pair.filter(|line| !line.trim_start().starts_with("//"));
-    let pair = joined(&Vec::from_iter(pair).join(" "));
+    // The pair and the rows of the writer are public, with words at their fields.
+    let public = include_str!("../lib.rs").lines();
+    let public = public.filter(|line| !line.trim_start().starts_with("//"));
+    let public = joined(&Vec::from_iter(public).join(" "));
 
     let functions: Vec<&str> = plain.split("uint32_t lxt_").skip(1).collect();
-    assert_eq!(functions.len(), 10);
+    assert_eq!(functions.len(), 11);
     for function in functions {
         let (name, rest) = function.split_once('(').expect("a function");
         let (arguments, _) = rest.split_once(");").expect("its arguments");
@@ -69,10 +71,10 @@ fn the_declarations_are_those_of_the_header() {
         let declared = format!("pub fn lxt_{name}({arguments}) -> u32;");
         assert!(ours.contains(&declared), "{declared}");
     }
-    assert_eq!(ours.matches("pub fn lxt_").count(), 10);
+    assert_eq!(ours.matches("pub fn lxt_").count(), 11);
 
     let structs: Vec<&str> = plain.split("typedef struct {").skip(1).collect();
-    assert_eq!(structs.len(), 5);
+    assert_eq!(structs.len(), 7);
     for part in structs {
         let (fields, rest) = part.split_once('}').expect("its end");
         let (name, _) = rest.split_once(';').expect("its name");
@@ -84,7 +86,7 @@ fn the_declarations_are_those_of_the_header() {
         let fields = Vec::from_iter(fields).join(" ");
         let declared = format!("pub struct {} {{ {fields} }}", rust_type(name));
         let code = match name.trim() {
-            "lxt_pair" => &pair,
+            "lxt_pair" | "lxt_new_facility" | "lxt_new_change" => &public,
             _ => &ours,
         };
         assert!(code.contains(&declared), "{declared}");
@@ -96,7 +98,7 @@ fn the_declarations_are_those_of_the_header() {
 
 // ---- Length ----
 
-/// All ten answers about a file with this many bytes, pairs and numbers lent, and what these hold.
+/// All ten answers of reading about a file with this many bytes, pairs and numbers lent, and what these hold.
 fn all_answers(file: &[u8], bits: &mut [u8], pairs: &mut [Pair], output: &mut [u32]) -> String {
     let mut answers = String::new();
     let (mut five, mut scale) = (MARKED, 99);
@@ -203,6 +205,11 @@ fn a_struct_is_its_numbers() {
     assert_eq!((size_of::<Facility>(), align_of::<Facility>()), (8, 4));
     assert_eq!((size_of::<c::Value>(), align_of::<c::Value>()), (24, 8));
     assert_eq!((size_of::<Handed>(), align_of::<Handed>()), (8, 4));
+    assert_eq!(
+        (size_of::<NewFacility>(), align_of::<NewFacility>()),
+        (20, 4)
+    );
+    assert_eq!((size_of::<NewChange>(), align_of::<NewChange>()), (16, 4));
 }
 
 /// Memory from an address that 64 divides.
@@ -693,4 +700,149 @@ fn a_walk_is_written_or_stays() {
             assert_eq!(apart(&pairs), (numbers.clone(), offsets.clone()));
         }
     });
+}
+
+/// An input in the rows of C.
+pub struct Rows {
+    input: lxt_generate::Input,
+    pub facilities: Vec<NewFacility>,
+    pub changes: Vec<NewChange>,
+}
+
+pub fn rows(input: lxt_generate::Input) -> Rows {
+    let facility = |row: &[u32; 5]| NewFacility {
+        name_start: row[0],
+        name_length: row[1],
+        kind: row[2],
+        msb: row[3] as i32,
+        lsb: row[4] as i32,
+    };
+    let change = |row: &[u32; 4]| NewChange {
+        facility: row[0],
+        time: row[1],
+        value_start: row[2],
+        value_length: row[3],
+    };
+    Rows {
+        facilities: input.facilities.iter().map(facility).collect(),
+        changes: input.changes.iter().map(change).collect(),
+        input,
+    }
+}
+
+impl Rows {
+    pub fn given(&self) -> super::Given<'_> {
+        super::Given {
+            facilities: &self.facilities,
+            names: &self.input.names,
+            changes: &self.changes,
+            values: &self.input.values,
+            initial: self.input.initial,
+            timescale: self.input.timescale,
+        }
+    }
+
+    /// What the independent writer answers and writes.
+    pub fn expected(&self, out: &mut [u8]) -> Result<u32, u8> {
+        lxt_reference::write(
+            &self.input.facilities,
+            &self.input.names,
+            &self.input.changes,
+            &self.input.values,
+            self.input.initial,
+            self.input.timescale,
+            out,
+        )
+    }
+}
+
+#[test]
+fn a_file_is_written_or_stays() {
+    const MARK: u32 = 0xAAAA_AAAA;
+    let mut seen = BTreeMap::new();
+    for seed in 0..3_000 {
+        let rows = rows(lxt_generate::input_case(seed).input);
+        let exact = rows.expected(&mut vec![0; 1 << 20]).unwrap_or(100) as usize;
+        for room in [0, exact - 1, exact, exact + 9] {
+            let (mut out, mut expected_out) = (vec![0xA5; room], vec![0xA5; room]);
+            let mut length = framed(MARK);
+            let number = super::write(rows.given(), &mut out, &mut length.lent);
+            let expected = rows.expected(&mut expected_out);
+            assert_eq!((number, length.unframed()), after(expected, MARK));
+            assert!(out == expected_out, "seed {seed}");
+            *seen.entry(number).or_insert(0) += 1;
+        }
+    }
+    println!("{seen:?}");
+    assert!([0, 24, 25].iter().all(|it| seen[it] >= 1_000), "{seen:?}");
+}
+
+#[test]
+fn empty_slices_may_be_written_from_and_into() {
+    let mut nothing = rows(lxt_generate::Input::new());
+    nothing.input.names.shrink_to_fit();
+    let (mut out, mut length) = ([0xA5; 64], 77);
+    assert_eq!(super::write(nothing.given(), &mut [], &mut length), 25);
+    assert_eq!(length, 77);
+    assert_eq!(super::write(nothing.given(), &mut out, &mut length), 0);
+    assert_eq!((length, out[62], out[63]), (63, 0xB4, 0xA5));
+    nothing.input.initial = 9;
+    assert_eq!(super::write(nothing.given(), &mut [], &mut length), 24);
+}
+
+/// Rows from an address that 4 divides and 8 does not.
+#[repr(C)]
+struct OddRows<T> {
+    before: u32,
+    rows: [T; 90],
+}
+
+fn odd_rows<T: Copy + Default>(rows: &[T]) -> At64<OddRows<T>> {
+    let mut odd = At64(OddRows {
+        before: 0,
+        rows: [T::default(); 90],
+    });
+    odd.0.rows[..rows.len()].copy_from_slice(rows);
+    assert_eq!(odd.0.rows.as_ptr() as usize % 8, 4);
+    odd
+}
+
+/// A pool so many bytes behind an address that 64 divides.
+fn shifted(pool: &[u8], shift: usize) -> At64<[u8; 3_100]> {
+    let mut bytes = At64([0; 3_100]);
+    bytes.0[shift..][..pool.len()].copy_from_slice(pool);
+    bytes
+}
+
+#[test]
+fn rows_and_pools_may_lie_anywhere_that_their_types_allow() {
+    let mut seen = 0;
+    for seed in 3_000..3_400 {
+        let rows = rows(lxt_generate::input_case(seed).input);
+        let given = rows.given();
+        let (n, count) = (given.facilities.len(), given.changes.len());
+        if n.max(count) > 90 || given.names.len().max(given.values.len()) > 3_000 {
+            continue;
+        }
+        let (facilities, changes) = (odd_rows(given.facilities), odd_rows(given.changes));
+        let shift = seed as usize % 16;
+        let (names, values) = (shifted(given.names, shift), shifted(given.values, shift));
+        let odd = super::Given {
+            facilities: &facilities.0.rows[..n],
+            names: &names.0[shift..][..given.names.len()],
+            changes: &changes.0.rows[..count],
+            values: &values.0[shift..][..given.values.len()],
+            ..given
+        };
+        let mut out = At64([0xA5; 20_016]);
+        let out = &mut out.0[shift..shift + 20_000];
+        let mut expected = vec![0xA5; 20_000];
+        let mut length = 77;
+        let number = super::write(odd, out, &mut length);
+        assert_eq!((number, length), after(rows.expected(&mut expected), 77));
+        assert!(out == expected, "seed {seed}");
+        assert_eq!((facilities.0.before, changes.0.before), (0, 0));
+        seen += 1;
+    }
+    assert!(seen > 200, "{seen}");
 }

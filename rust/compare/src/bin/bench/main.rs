@@ -1,7 +1,7 @@
-//! Measures the proved functions beside the independent reader, and prints tables:
+//! Measures the proved functions beside the independent reader and writer, and prints tables:
 //!
 //! ```text
-//! cargo run --release --offline -p lxt-compare --bin bench [ratios] [stray] [growth] [hostile] [stack]
+//! cargo run --release --offline -p lxt-compare --bin bench [ratios] [stray] [growth] [hostile] [writing] [stack]
 //! ```
 //!
 //! Without a word it makes all parts.
@@ -16,6 +16,7 @@ mod ratios;
 mod stack;
 mod stray;
 mod timing;
+mod writing;
 
 fn main() {
     let words: Vec<String> = std::env::args().skip(1).collect();
@@ -25,6 +26,7 @@ fn main() {
         ("stray", stray::print),
         ("growth", growth::print),
         ("hostile", hostile::print),
+        ("writing", writing::print),
         ("stack", stack::print),
     ] {
         if asked(part) {

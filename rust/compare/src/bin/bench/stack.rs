@@ -5,6 +5,7 @@ use std::hint::black_box;
 
 use crate::timing::{grouped, used};
 use lxt::Pair;
+use lxt_compare::write::{proved, Rows};
 use lxt_generate::{large, Large, LONG_TIMES, SHORT_TIMES};
 
 type Entry = extern "C" fn(*mut c_void) -> *mut c_void;
@@ -67,7 +68,7 @@ fn used_by(run: &mut (dyn FnMut() + Send)) -> usize {
 
 pub fn print() {
     println!(
-        "\nStack: the most bytes that a call touched, over a trace, large ones and hostile files\n"
+        "\nStack: the most bytes that a call touched, over a trace, large ones and hostile files, and inputs to write\n"
     );
     println!("| Call | Bytes |");
     println!("|---|---|");
@@ -91,7 +92,7 @@ pub fn print() {
     // A thread's own use, of which a call's is counted from.
     let nothing = used_by(&mut || used(0));
     let mut most = [0; lxt_compare::CALLS.len()];
-    for file in &files {
+    for (seed, file) in files.iter().enumerate() {
         let summary = lxt_reference::judge(file);
         let n = summary.map_or(2, |it| it.facilities as usize);
         let chains = lxt_reference::chains(file).unwrap_or_default();
@@ -104,7 +105,9 @@ pub fn print() {
         let asked = vec![1; n];
         let mut pairs = vec![Pair::default(); n];
         let mut output = vec![0; 2_000];
-        let used = [
+        let input = lxt_generate::input_case(seed as u64).input;
+        let (rows, mut out) = (Rows::of(&input), vec![0; 1 << 20]);
+        let used: [usize; lxt_compare::CALLS.len()] = [
             used_by(&mut || used(lxt::judge(file))),
             used_by(&mut || used(lxt::stray_bytes(file))),
             used_by(&mut || used(lxt::facts(file, facility))),
@@ -115,6 +118,7 @@ pub fn print() {
             used_by(&mut || used(lxt::value_at(file, facility, 1_000, &mut bits))),
             used_by(&mut || used(lxt::start_walk(file, &asked, &mut pairs))),
             used_by(&mut || used(lxt::carry_on(file, &mut pairs, 1_000, &mut output))),
+            used_by(&mut || used(proved(&input, &rows, &mut out))),
         ];
         for (most, used) in most.iter_mut().zip(used) {
             *most = used.max(*most);
