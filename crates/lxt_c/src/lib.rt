@@ -18,6 +18,7 @@ use lxt_reader::names;
 use lxt_reader::values;
 
 pub mod walk;
+pub mod write;
 
 // 1 for yes, 0 for no.
 pub fn yes_no(b: bool) -> u32
