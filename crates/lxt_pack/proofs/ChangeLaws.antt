@@ -19,7 +19,7 @@ use Rattle.lxt_format.specs.declared.Kind.the-variants.{Bits, Integer, Real, Te
 use Rattle.lxt_written.specs.Stands.{length-bigEndian}
 use Rattle.lxt_written.specs.WrittenChanges.{bigEndian, codeOf, canHold, commandFor, pack, packedSymbols, dataFor, fewestBytes, changeBytes}
 use Rattle.lxt_written.specs.Writing.{isSymbol, isBit, valueAllowed}
-use Rattle.lxt_written.specs.CommandLaws.{length-change, length-packed, value-symbols, value-length, command-bound, command-holds, held-codes}
+use Rattle.lxt_written.specs.CommandLaws.{code-small, length-change, length-packed, value-symbols, value-length, command-bound, command-holds, held-codes}
 use Rattle.lxt_pack.specs.Symbols.{Chosen, Size, Holding, Packing}
 use Rattle.lxt_pack.specs.Change.{Part, WidthFor, headOf, Held, Sound, Puts}
 use Rattle.lxt_pack.proofs.SizeLaws.{bits-symbols, integer-command}
@@ -105,6 +105,8 @@ pack-held v start end command out at b h e some =
             codes = λ i from below.
                 rw (e, ← part-at v start end i from below)
                 (ltb-true _ _ (all-at (λ x. ltb (codeOf x) (2 ^ symbolSize command)) (slice start end v) (i - start) codes (omega arith)));
+            known = λ i from below.
+                rw (← part-at v start end i from below) (code-small _ (all-at isSymbol (slice start end v) (i - start) (h .symbols) (omega arith)));
           };
       room = rw e (h .room);
     }
@@ -183,6 +185,7 @@ module _ (v : List ℕ) (start end delta : ℕ) (out : List ℕ) (at : ℕ) (s :
         upto = s .part .upto;
         within = s .part .within;
         most = omega (arith, s .wide .1);
+        symbols = value-symbols Bits (s .width) (slice start end v) refl (s .allowed);
         holds = rw (bits-command-is c h) (command-holds Bits (s .width) (slice start end v) refl (s .allowed));
         room = omega arith;
       }

@@ -19,50 +19,40 @@ use Rattle.lxt_format.specs.Reals.{placeOf}
 use Rattle.lxt_format.specs.Changes.{packedSize}
 use Rattle.lxt_written.specs.WrittenChanges.{codeOf, packedCodes, pack}
 use Rattle.lxt_written.specs.CommandLaws.{codes-small}
-use Rattle.lxt_pack.specs.Symbols.{Whole, Size, Holding, Packing}
+use Rattle.lxt_pack.specs.Symbols.{Coded, Symbols, Whole, Size, Holding, Packing}
 
--- ---- the table of codes
+-- ---- codes, by all bytes
 
-abbrev codes : List ℕ
-codes =
-    9 ∷ 9 ∷ 9 ∷ 9 ∷ 9 ∷ 9 ∷ 9 ∷ 9 ∷ 9 ∷ 9 ∷ 9 ∷ 9 ∷ 9 ∷ 9 ∷ 9 ∷ 9
-    ∷ 9 ∷ 9 ∷ 9 ∷ 9 ∷ 9 ∷ 9 ∷ 9 ∷ 9 ∷ 9 ∷ 9 ∷ 9 ∷ 9 ∷ 9 ∷ 9 ∷ 9 ∷ 9
-    ∷ 9 ∷ 9 ∷ 9 ∷ 9 ∷ 9 ∷ 9 ∷ 9 ∷ 9 ∷ 9 ∷ 9 ∷ 9 ∷ 9 ∷ 9 ∷ 8 ∷ 9 ∷ 9
-    ∷ 0 ∷ 1 ∷ 9 ∷ 9 ∷ 9 ∷ 9 ∷ 9 ∷ 9 ∷ 9 ∷ 9 ∷ 9 ∷ 9 ∷ 9 ∷ 9 ∷ 9 ∷ 9
-    ∷ 9 ∷ 9 ∷ 9 ∷ 9 ∷ 9 ∷ 9 ∷ 9 ∷ 9 ∷ 4 ∷ 9 ∷ 9 ∷ 9 ∷ 7 ∷ 9 ∷ 9 ∷ 9
-    ∷ 9 ∷ 9 ∷ 9 ∷ 9 ∷ 9 ∷ 5 ∷ 9 ∷ 6 ∷ 3 ∷ 9 ∷ 2 ∷ 9 ∷ 9 ∷ 9 ∷ 9 ∷ 9
-    ∷ 9 ∷ 9 ∷ 9 ∷ 9 ∷ 9 ∷ 9 ∷ 9 ∷ 9 ∷ 9 ∷ 9 ∷ 9 ∷ 9 ∷ 9 ∷ 9 ∷ 9 ∷ 9
-    ∷ 9 ∷ 9 ∷ 9 ∷ 9 ∷ 9 ∷ 9 ∷ 9 ∷ 9 ∷ 9 ∷ 9 ∷ 9 ∷ 9 ∷ 9 ∷ 9 ∷ 9 ∷ 9
-    ∷ 9 ∷ 9 ∷ 9 ∷ 9 ∷ 9 ∷ 9 ∷ 9 ∷ 9 ∷ 9 ∷ 9 ∷ 9 ∷ 9 ∷ 9 ∷ 9 ∷ 9 ∷ 9
-    ∷ 9 ∷ 9 ∷ 9 ∷ 9 ∷ 9 ∷ 9 ∷ 9 ∷ 9 ∷ 9 ∷ 9 ∷ 9 ∷ 9 ∷ 9 ∷ 9 ∷ 9 ∷ 9
-    ∷ 9 ∷ 9 ∷ 9 ∷ 9 ∷ 9 ∷ 9 ∷ 9 ∷ 9 ∷ 9 ∷ 9 ∷ 9 ∷ 9 ∷ 9 ∷ 9 ∷ 9 ∷ 9
-    ∷ 9 ∷ 9 ∷ 9 ∷ 9 ∷ 9 ∷ 9 ∷ 9 ∷ 9 ∷ 9 ∷ 9 ∷ 9 ∷ 9 ∷ 9 ∷ 9 ∷ 9 ∷ 9
-    ∷ 9 ∷ 9 ∷ 9 ∷ 9 ∷ 9 ∷ 9 ∷ 9 ∷ 9 ∷ 9 ∷ 9 ∷ 9 ∷ 9 ∷ 9 ∷ 9 ∷ 9 ∷ 9
-    ∷ 9 ∷ 9 ∷ 9 ∷ 9 ∷ 9 ∷ 9 ∷ 9 ∷ 9 ∷ 9 ∷ 9 ∷ 9 ∷ 9 ∷ 9 ∷ 9 ∷ 9 ∷ 9
-    ∷ 9 ∷ 9 ∷ 9 ∷ 9 ∷ 9 ∷ 9 ∷ 9 ∷ 9 ∷ 9 ∷ 9 ∷ 9 ∷ 9 ∷ 9 ∷ 9 ∷ 9 ∷ 9
-    ∷ 9 ∷ 9 ∷ 9 ∷ 9 ∷ 9 ∷ 9 ∷ 9 ∷ 9 ∷ 9 ∷ 9 ∷ 9 ∷ 9 ∷ 9 ∷ 9 ∷ 9 ∷ 9
-    ∷ []
-
-codes-all : all (λ b. eqb (getD codes b 0) (codeOf b) && leb (getD codes b 0) 9) (range 0 256) ≡ true
+-- 0, 1, Z and X
+four-codes : all (λ b. leb 4 (codeOf b) || eqb (b * 107 / 64 % 4) (codeOf b)) (range 0 256) ≡ true
 unfolding all range codeOf placeOf
-codes-all = refl
+four-codes = refl
 
--- each byte has its code there
-pub code-is : (b : ℕ) → b < 256 → (getD codes b 0 ≡ codeOf b) × (getD codes b 0 ≤ 9)
-code-is b h =
-    let e = all-range (λ x. eqb (getD codes x 0) (codeOf x) && leb (getD codes x 0) 9) 0 256 codes-all b (omega arith) (omega arith) in
-    let both = and-both (eqb (getD codes b 0) (codeOf b)) (leb (getD codes b 0) 9) e in
-    (eqb-true _ _ (both .0), leb-true _ _ (both .1))
+pub four-coded : (b : ℕ) → b < 256 → Coded b 4 (b * 107 / 64 % 4)
+four-coded b h k =
+    let e = all-range (λ x. leb 4 (codeOf x) || eqb (x * 107 / 64 % 4) (codeOf x)) 0 256 four-codes b (omega arith) (omega arith) in
+    or-either (leb 4 (codeOf b)) (eqb (b * 107 / 64 % 4) (codeOf b)) e (λ q. let l = leb-true 4 (codeOf b) q in absurd (omega arith)) (λ q. eqb-true _ _ q)
 
--- a byte whose code is 0 or 1 is '0' or '1', and its code is its lowest bit
-low-all : all (λ b. leb 2 (codeOf b) || eqb (codeOf b) (b % 2)) (range 0 256) ≡ true
+-- all symbols
+nine-codes : all (λ b. leb 9 (codeOf b) || eqb (0x5100720003806400 / 2 ^ (4 * (b * 9 / 4 % 16)) % 16) (codeOf b)) (range 0 256) ≡ true
+unfolding all range codeOf placeOf
+nine-codes = refl
+
+pub nine-coded : (b : ℕ) → b < 256 → Coded b 9 (0x5100720003806400 / 2 ^ (4 * (b * 9 / 4 % 16)) % 16)
+nine-coded b h k =
+    let e = all-range (λ x. leb 9 (codeOf x) || eqb (0x5100720003806400 / 2 ^ (4 * (x * 9 / 4 % 16)) % 16) (codeOf x)) 0 256 nine-codes b (omega arith) (omega arith) in
+    or-either (leb 9 (codeOf b)) (eqb (0x5100720003806400 / 2 ^ (4 * (b * 9 / 4 % 16)) % 16) (codeOf b)) e
+    (λ q. let l = leb-true 9 (codeOf b) q in absurd (omega arith)) (λ q. eqb-true _ _ q)
+
+-- a byte whose code is 0 or 1 is '0' or '1'
+low-all : all (λ b. leb 2 (codeOf b) || eqb b (0x30 + codeOf b)) (range 0 256) ≡ true
 unfolding all range codeOf placeOf
 low-all = refl
 
-pub lowest-bit : (b : ℕ) → b < 256 → codeOf b < 2 → codeOf b ≡ b % 2
-lowest-bit b h k =
-    let e = all-range (λ x. leb 2 (codeOf x) || eqb (codeOf x) (x % 2)) 0 256 low-all b (omega arith) (omega arith) in
-    or-either (leb 2 (codeOf b)) (eqb (codeOf b) (b % 2)) e (λ q. let l = leb-true 2 (codeOf b) q in absurd (omega arith)) (λ q. eqb-true _ _ q)
+pub digit-byte : (b : ℕ) → b < 256 → codeOf b < 2 → b ≡ 0x30 + codeOf b
+digit-byte b h k =
+    let e = all-range (λ x. leb 2 (codeOf x) || eqb x (0x30 + codeOf x)) 0 256 low-all b (omega arith) (omega arith) in
+    or-either (leb 2 (codeOf b)) (eqb b (0x30 + codeOf b)) e (λ q. let l = leb-true 2 (codeOf b) q in absurd (omega arith)) (λ q. eqb-true _ _ q)
 
 -- ---- whole bytes
 
@@ -112,37 +102,118 @@ eight-long v at h =
 abbrev Bytes : List ℕ → Type 0
 Bytes values = (i : ℕ) → getD values i 0 < 256
 
-module _ (v : List ℕ) (at : ℕ) where
-  -- the code of 1 bit at a place
-  bit-at : Whole v 1 8 at → Bytes v → (i : ℕ) → i < 8 → codeOf (getD v (at + i) 0) ≡ getD v (at + i) 0 % 2
-  bit-at w bytes i h = lowest-bit (getD v (at + i) 0) (bytes (at + i)) (w .codes i h)
+-- what holds of 0 and 1 holds of each number below 2
+on-bit : (P : ℕ → Type 0) → P 0 → P 1 → (a : ℕ) → a < 2 → P a
+on-bit P z o zero h = z
+on-bit P z o (suc zero) h = o
+on-bit P z o (suc (suc a)) h = absurd (omega arith)
 
-  pub eight-is : Whole v 1 8 at → Bytes v
-      → getD v at 0 % 2 * 128 + getD v (at + 1) 0 % 2 * 64 + (getD v (at + 2) 0 % 2 * 32 + getD v (at + 3) 0 % 2 * 16)
-      + (getD v (at + 4) 0 % 2 * 8 + getD v (at + 5) 0 % 2 * 4) + (getD v (at + 6) 0 % 2 * 2 + getD v (at + 7) 0 % 2)
-      ≡ packedCodes 1 8 (map codeOf (slice at (at + 8) v))
+-- four bits, which stand 8 apart, beside each other
+abbrev Gathered : ℕ → ℕ → ℕ → ℕ → Type 0
+Gathered a b c d = (a * 16777216 + b * 65536 + (c * 256 + d)) * 16909320 / 16777216 % 16 ≡ a * 8 + (b * 4 + (c * 2 + d))
+
+gather : (a b c d : ℕ) → a < 2 → b < 2 → c < 2 → d < 2 → Gathered a b c d
+gather a b c d h i j k =
+    on-bit (λ a. Gathered a b c d)
+    (on-bit (λ b. Gathered 0 b c d)
+    (on-bit (λ c. Gathered 0 0 c d)
+    (on-bit (λ d. Gathered 0 0 0 d) refl refl d k)
+    (on-bit (λ d. Gathered 0 0 1 d) refl refl d k)
+    c j)
+    (on-bit (λ c. Gathered 0 1 c d)
+    (on-bit (λ d. Gathered 0 1 0 d) refl refl d k)
+    (on-bit (λ d. Gathered 0 1 1 d) refl refl d k)
+    c j)
+    b i)
+    (on-bit (λ b. Gathered 1 b c d)
+    (on-bit (λ c. Gathered 1 0 c d)
+    (on-bit (λ d. Gathered 1 0 0 d) refl refl d k)
+    (on-bit (λ d. Gathered 1 0 1 d) refl refl d k)
+    c j)
+    (on-bit (λ c. Gathered 1 1 c d)
+    (on-bit (λ d. Gathered 1 1 0 d) refl refl d k)
+    (on-bit (λ d. Gathered 1 1 1 d) refl refl d k)
+    c j)
+    b i)
+    a h
+
+module _ (v : List ℕ) (at : ℕ) (bytes : Bytes v) where
+  module _ (w : Whole v 1 4 at) where
+    first-code : codeOf (getD v at 0) < 2
+    first-code = rw (add-zero at) at (w .codes 0 (omega arith))
+
+    -- each byte is 0x30 and its code
+    pub digits-are : (getD v at 0 ≡ 0x30 + codeOf (getD v at 0)) × (getD v (at + 1) 0 ≡ 0x30 + codeOf (getD v (at + 1) 0))
+        × (getD v (at + 2) 0 ≡ 0x30 + codeOf (getD v (at + 2) 0)) × (getD v (at + 3) 0 ≡ 0x30 + codeOf (getD v (at + 3) 0))
+    digits-are = (
+      digit-byte _ (bytes at) first-code,
+      digit-byte _ (bytes (at + 1)) (w .codes 1 (omega arith)),
+      digit-byte _ (bytes (at + 2)) (w .codes 2 (omega arith)),
+      digit-byte _ (bytes (at + 3)) (w .codes 3 (omega arith)),
+    )
+
+    pub digits-small : (codeOf (getD v at 0) < 2) × (codeOf (getD v (at + 1) 0) < 2) × (codeOf (getD v (at + 2) 0) < 2) × (codeOf (getD v (at + 3) 0) < 2)
+    digits-small = (first-code, w .codes 1 (omega arith), w .codes 2 (omega arith), w .codes 3 (omega arith))
+
+    pub nibble-is : (x : ℕ)
+        → x ≡ getD v at 0 * 16777216 + getD v (at + 1) 0 * 65536 + (getD v (at + 2) 0 * 256 + getD v (at + 3) 0) - 0x30303030
+        → (x * 16909320 / 16777216 % 16 ≡ packedCodes 1 4 (map codeOf (slice at (at + 4) v))) × (x * 16909320 / 16777216 % 16 < 16)
+    unfolding packedCodes
+    nibble-is x e =
+        let d = digits-are in
+        let s = digits-small in
+        let a : ℕ = codeOf (getD v at 0) in
+        let b : ℕ = codeOf (getD v (at + 1) 0) in
+        let c : ℕ = codeOf (getD v (at + 2) 0) in
+        let f : ℕ = codeOf (getD v (at + 3) 0) in
+        let y : x ≡ a * 16777216 + b * 65536 + (c * 256 + f) = omega (arith, d .0, d .1, d .2, d .3) in
+        (rw (four-long v at (w .within), y) (gather a b c f (s .0) (s .1) (s .2) (s .3) ∙ omega arith), omega arith)
+
+  pub eight-is : Whole v 1 8 at → (high low : ℕ) → high ≡ packedCodes 1 4 (map codeOf (slice at (at + 4) v)) → low ≡ packedCodes 1 4 (map codeOf (slice (at + 4) (at + 4 + 4) v))
+      → high * 16 + low ≡ packedCodes 1 8 (map codeOf (slice at (at + 8) v))
   unfolding packedCodes
-  eight-is w bytes =
-      let e : at + 0 ≡ at = add-zero at in
-      let first : codeOf (getD v at 0) ≡ getD v at 0 % 2 = rw e at (bit-at w bytes 0 (omega arith)) in
-      rw (eight-long v at (w .within), first, bit-at w bytes 1 (omega arith), bit-at w bytes 2 (omega arith), bit-at w bytes 3 (omega arith), bit-at w bytes 4 (omega arith), bit-at w bytes 5 (omega arith), bit-at w bytes 6 (omega arith), bit-at w bytes 7 (omega arith))
-      (omega arith)
+  eight-is w high low eh el =
+      let a : at + 4 + 1 ≡ at + 5 = omega arith in
+      let b : at + 4 + 2 ≡ at + 6 = omega arith in
+      let c : at + 4 + 3 ≡ at + 7 = omega arith in
+      let inside = w .within in
+      let h = rw (four-long v at (omega arith)) at eh in
+      let l = rw (four-long v (at + 4) (omega arith), a, b, c) at el in
+      rw (eight-long v at inside) (omega (arith, h, l))
 
-  pub four-is : Whole v 2 4 at → (a b c d : ℕ) → a ≡ codeOf (getD v at 0) → b ≡ codeOf (getD v (at + 1) 0) → c ≡ codeOf (getD v (at + 2) 0) → d ≡ codeOf (getD v (at + 3) 0)
-      → a % 4 * 64 + b % 4 * 16 + (c % 4 * 4 + d % 4) ≡ packedCodes 2 4 (map codeOf (slice at (at + 4) v))
+  -- the first half and the second
+  pub eight-first : Whole v 1 8 at → Whole v 1 4 at
+  eight-first w = record { within = omega (arith, w .within); codes = λ i h. w .codes i (omega arith); known = λ i h. w .known i (omega arith) }
+
+  pub eight-second : Whole v 1 8 at → Whole v 1 4 (at + 4)
+  eight-second w =
+      record {
+        within = omega (arith, w .within);
+        codes = λ i h. let e : at + 4 + i ≡ at + (4 + i) = omega arith in rw e (w .codes (4 + i) (omega arith));
+        known = λ i h. let e : at + 4 + i ≡ at + (4 + i) = omega arith in rw e (w .known (4 + i) (omega arith));
+      }
+
+  -- the code at a place is the one that was found
+  found-first : (b p bound r : ℕ) → Whole v b p at → 0 < p → Coded (getD v at 0) bound r → codeOf (getD v (at + 0) 0) < bound → r ≡ codeOf (getD v at 0)
+  found-first b p bound r w h c k = c (rw (add-zero at) at k)
+
+  pub four-is : Whole v 2 4 at → (a b c d : ℕ) → Coded (getD v at 0) 4 a → Coded (getD v (at + 1) 0) 4 b → Coded (getD v (at + 2) 0) 4 c → Coded (getD v (at + 3) 0) 4 d
+      → a * 64 + b * 16 + (c * 4 + d) ≡ packedCodes 2 4 (map codeOf (slice at (at + 4) v))
   unfolding packedCodes
   four-is w a b c d ea eb ec ed =
-      let e : at + 0 ≡ at = add-zero at in
-      let ka : codeOf (getD v at 0) < 4 = rw e at (w .codes 0 (omega arith)) in
-      let kb : codeOf (getD v (at + 1) 0) < 4 = w .codes 1 (omega arith) in
-      let kc : codeOf (getD v (at + 2) 0) < 4 = w .codes 2 (omega arith) in
-      let kd : codeOf (getD v (at + 3) 0) < 4 = w .codes 3 (omega arith) in
-      rw (four-long v at (w .within), ← ea, ← eb, ← ec, ← ed) (omega arith)
+      let ka = found-first 2 4 4 a w (omega arith) ea (w .codes 0 (omega arith)) in
+      let kb = eb (w .codes 1 (omega arith)) in
+      let kc = ec (w .codes 2 (omega arith)) in
+      let kd = ed (w .codes 3 (omega arith)) in
+      rw (four-long v at (w .within), ← ka, ← kb, ← kc, ← kd) (omega arith)
 
-  pub two-is : Whole v 4 2 at → (a b : ℕ) → a ≡ codeOf (getD v at 0) → b ≡ codeOf (getD v (at + 1) 0)
+  pub two-is : Whole v 4 2 at → (a b : ℕ) → Coded (getD v at 0) 9 a → Coded (getD v (at + 1) 0) 9 b
       → a * 16 + b ≡ packedCodes 4 2 (map codeOf (slice at (at + 2) v))
   unfolding packedCodes
-  two-is w a b ea eb = rw (two-long v at (w .within), ← ea, ← eb) (omega arith)
+  two-is w a b ea eb =
+      let ka = found-first 4 2 9 a w (omega arith) ea (w .known 0 (omega arith)) in
+      let kb = eb (w .known 1 (omega arith)) in
+      rw (two-long v at (w .within), ← ka, ← kb) (omega arith)
 
 -- ---- the three sizes
 
@@ -157,6 +228,7 @@ whole-of v b at k h e =
     record {
       within = rw (← e) (h .within);
       codes = λ i l. rw (← e) (let l′ : i < 8 / b = rw e l in h .codes (at + i) (omega arith) (omega arith));
+      known = λ i l. let l′ : i < 8 / b = rw e l in h .known (at + i) (omega arith) (omega arith);
     }
 
 pub packed-of : (v : List ℕ) (b at k r : ℕ) → b ≡ k → r ≡ packedCodes k (8 / k) (map codeOf (slice at (at + 8 / k) v))
@@ -177,9 +249,9 @@ codes-next v i end k =
     ]
 
 -- the first
-pub digit-is : (v : List ℕ) (at k end r : ℕ) → at ≤ end → end ≤ length v → k < end - at → r ≡ codeOf (getD v (at + k) 0)
+pub digit-is : (v : List ℕ) (at k end r : ℕ) → at ≤ end → end ≤ length v → Symbols v at end → k < end - at → Coded (getD v (at + k) 0) 9 r
     → r ≡ getD (map codeOf (slice (at + k) end v)) 0 0
-digit-is v at k end r l i h e = rw (next v (at + k) end (omega arith) i) e
+digit-is v at k end r l i s h e = rw (next v (at + k) end (omega arith) i) (e (s (at + k) (omega arith) (omega arith)))
 
 pub digit-none : (v : List ℕ) (at k end : ℕ) → end - at ≤ k → 0 ≡ getD (map codeOf (slice (at + k) end v)) 0 0
 digit-none v at k end h = rw (slice-none (at + k) end v (omega arith))
@@ -327,12 +399,12 @@ module _ (v : List ℕ) (start end b : ℕ) (out : List ℕ) (at : ℕ) (k : Pac
   pack-whole h =
       let g = k .holding in
       let u = w .upto in
-      record { size = g .size; upto = omega arith; within = omega (arith, g .within); codes = λ i l m. g .codes i (omega (arith, w .from)) (omega arith) }
+      record { size = g .size; upto = omega arith; within = omega (arith, g .within); codes = λ i l m. g .codes i (omega (arith, w .from)) (omega arith); known = λ i l m. g .known i (omega (arith, w .from)) (omega arith) }
 
   pub pack-rest : Holding v b p end
   pack-rest =
       let g = k .holding in
-      record { size = g .size; upto = w .upto; within = g .within; codes = λ i l m. g .codes i (omega (arith, w .from)) m }
+      record { size = g .size; upto = w .upto; within = g .within; codes = λ i l m. g .codes i (omega (arith, w .from)) m; known = λ i l m. g .known i (omega (arith, w .from)) m }
 
   one-more : p + 8 / b ≤ end → packedSize b (end - p) ≡ suc (packedSize b (end - (p + 8 / b)))
   one-more h =

@@ -11,7 +11,7 @@ use Rattle.lxt_format.specs.Changes.{symbolSize, packedSize}
 use Rattle.lxt_format.specs.declared.Kind.{Kind}
 use Rattle.lxt_format.specs.declared.Kind.the-variants.{Bits, Integer, Real, Text}
 use Rattle.lxt_written.specs.WrittenChanges.{bigEndian, canHold, dataFor, fewestBytes, changeBytes}
-use Rattle.lxt_written.specs.Writing.{valueAllowed}
+use Rattle.lxt_written.specs.Writing.{isSymbol, valueAllowed}
 
 -- a part of the pool of values, whose length is a number of 32 bits
 pub record Part (values : List ℕ) (start end : ℕ) : Type 0 where
@@ -46,6 +46,7 @@ pub record Held (values : List ℕ) (start end command : ℕ) (out : List ℕ) (
   pub upto : start ≤ end
   pub within : end ≤ length values
   pub most : end - start ≤ 4096
+  pub symbols : all isSymbol (slice start end values) ≡ true
   pub holds : canHold Bits (slice start end values) command ≡ true
   pub room : at + packedSize (symbolSize command) (end - start) ≤ length out
 

@@ -1,20 +1,19 @@
 -- What the functions over a value's symbols answer and ask.
-use Prim.Native.Nat.{ℕ, zero, suc, _+_, _-_, _≤_, _<_, _^_, max}
+use Prim.Native.Nat.{ℕ, zero, suc, _+_, _-_, _≤_, _<_, _^_}
 use mathlib.Core.Path.{_≡_}
-use mathlib.Core.Bool.{Bool}
+use mathlib.Core.Bool.{Bool, true, false}
 use mathlib.Core.List.{List, [], _∷_}
 use lib.ListN.{length, getD}
-use lib.Dec.{eqb}
+use lib.Dec.{ltb, eqb}
 use Rattle.lxt_format.specs.Basics.{if_then_else_, all}
 use Rattle.lxt_format.specs.Changes.{packedSize}
 use Rattle.lxt_format.specs.declared.Kind.the-variants.{Bits}
 use Rattle.lxt_written.specs.WrittenChanges.{codeOf, commandFor}
 use Rattle.lxt_written.specs.Writing.{isSymbol}
 
--- the highest code of some symbols; 0 where there is none
-unfoldable pub highestCode : List ℕ → ℕ
-highestCode [] = 0
-highestCode (b ∷ bs) = max (codeOf b) (highestCode bs)
+-- all codes are below a bound: 2 of 0 and 1, 4 of 0 1 Z X, 9 of all symbols
+unfoldable pub allBelow : ℕ → List ℕ → Bool
+allBelow bound value = all (λ b. ltb (codeOf b) bound) value
 
 -- all symbols are the first
 unfoldable pub sameAll : List ℕ → Bool
@@ -25,10 +24,25 @@ pub record Chosen (value : List ℕ) (c : ℕ) : Type 0 where
   pub command : c ≡ (if all isSymbol value then commandFor Bits value else 16)
   pub most : c ≤ 16
 
+-- the code of a symbol, where it is below a bound
+abbrev pub Coded : ℕ → ℕ → ℕ → Type 0
+Coded symbol bound r = codeOf symbol < bound → r ≡ codeOf symbol
+
+-- the command of one symbol, 16 where it is none
+pub record OneCommand (symbol c : ℕ) : Type 0 where
+  pub one : isSymbol symbol ≡ true → c ≡ 3 + codeOf symbol
+  pub none : isSymbol symbol ≡ false → c ≡ 16
+  pub most : c ≤ 18
+
+-- the bytes from `start` up to `end` are symbols
+abbrev pub Symbols : List ℕ → ℕ → ℕ → Type 0
+Symbols values start end = (i : ℕ) → start ≤ i → i < end → codeOf (getD values i 0) < 9
+
 -- p codes of b bits from `at` on, which fill a byte
 pub record Whole (values : List ℕ) (b p at : ℕ) : Type 0 where
   pub within : at + p ≤ length values
   pub codes : (i : ℕ) → i < p → codeOf (getD values (at + i) 0) < 2 ^ b
+  pub known : (i : ℕ) → i < p → codeOf (getD values (at + i) 0) < 9
 
 -- the sizes of a code in bits: 1, 2 and 4
 pub data Size : ℕ → Type 0 where
@@ -42,6 +56,7 @@ pub record Holding (values : List ℕ) (b start end : ℕ) : Type 0 where
   pub upto : start ≤ end
   pub within : end ≤ length values
   pub codes : (i : ℕ) → start ≤ i → i < end → codeOf (getD values i 0) < 2 ^ b
+  pub known : Symbols values start end
 
 -- and room for their bytes from `at` on
 pub record Packing (values : List ℕ) (start end b : ℕ) (out : List ℕ) (at : ℕ) : Type 0 where

@@ -1,315 +1,111 @@
 // The symbols of a value: their codes, the command that holds them, and their packing.
 ghost use mathlib.Core.Path.{_≡_};
 ghost use mathlib.Core.List.{map};
-ghost use Prim.Native.Nat.{_+_, _*_, _-_, _≤_, _<_, _/_, _^_, max};
+ghost use Prim.Native.Nat.{_+_, _-_, _≤_, _<_, _/_, _^_};
 ghost use lib.ListN.{length, getD};
 ghost use lib.Seq.{slice};
-ghost use lib.Dec.{eqb};
-ghost use Rattle.lxt_format.specs.Basics.{if_then_else_, all};
+ghost use lib.Dec.{ltb};
 ghost use Rattle.lxt_format.specs.Buffers.{placed};
-ghost use Rattle.lxt_format.specs.Changes.{symbolSize, packedSize};
-ghost use Rattle.lxt_format.specs.declared.Kind.the-variants.{Bits};
-ghost use Rattle.lxt_written.specs.WrittenChanges.{codeOf, commandFor, packedCodes, pack, packedSymbols};
-ghost use Rattle.lxt_written.specs.Writing.{isSymbol};
-ghost use Rattle.lxt_pack.specs.Symbols.{highestCode, sameAll, Chosen, Whole, Size, Holding, Packing};
+ghost use Rattle.lxt_format.specs.Changes.{packedSize};
+ghost use Rattle.lxt_written.specs.WrittenChanges.{codeOf, packedCodes, pack};
+ghost use Rattle.lxt_pack.specs.Symbols.{allBelow, sameAll, Coded, OneCommand, Chosen, Symbols, Whole, Size, Holding, Packing};
 
-// The code of each byte that is a symbol, and 9 of the others.
-const CODES: [u8; 256] = [
-    9,
-    9,
-    9,
-    9,
-    9,
-    9,
-    9,
-    9,
-    9,
-    9,
-    9,
-    9,
-    9,
-    9,
-    9,
-    9,
-    9,
-    9,
-    9,
-    9,
-    9,
-    9,
-    9,
-    9,
-    9,
-    9,
-    9,
-    9,
-    9,
-    9,
-    9,
-    9,
-    9,
-    9,
-    9,
-    9,
-    9,
-    9,
-    9,
-    9,
-    9,
-    9,
-    9,
-    9,
-    9,
-    8,
-    9,
-    9,
-    0,
-    1,
-    9,
-    9,
-    9,
-    9,
-    9,
-    9,
-    9,
-    9,
-    9,
-    9,
-    9,
-    9,
-    9,
-    9,
-    9,
-    9,
-    9,
-    9,
-    9,
-    9,
-    9,
-    9,
-    4,
-    9,
-    9,
-    9,
-    7,
-    9,
-    9,
-    9,
-    9,
-    9,
-    9,
-    9,
-    9,
-    5,
-    9,
-    6,
-    3,
-    9,
-    2,
-    9,
-    9,
-    9,
-    9,
-    9,
-    9,
-    9,
-    9,
-    9,
-    9,
-    9,
-    9,
-    9,
-    9,
-    9,
-    9,
-    9,
-    9,
-    9,
-    9,
-    9,
-    9,
-    9,
-    9,
-    9,
-    9,
-    9,
-    9,
-    9,
-    9,
-    9,
-    9,
-    9,
-    9,
-    9,
-    9,
-    9,
-    9,
-    9,
-    9,
-    9,
-    9,
-    9,
-    9,
-    9,
-    9,
-    9,
-    9,
-    9,
-    9,
-    9,
-    9,
-    9,
-    9,
-    9,
-    9,
-    9,
-    9,
-    9,
-    9,
-    9,
-    9,
-    9,
-    9,
-    9,
-    9,
-    9,
-    9,
-    9,
-    9,
-    9,
-    9,
-    9,
-    9,
-    9,
-    9,
-    9,
-    9,
-    9,
-    9,
-    9,
-    9,
-    9,
-    9,
-    9,
-    9,
-    9,
-    9,
-    9,
-    9,
-    9,
-    9,
-    9,
-    9,
-    9,
-    9,
-    9,
-    9,
-    9,
-    9,
-    9,
-    9,
-    9,
-    9,
-    9,
-    9,
-    9,
-    9,
-    9,
-    9,
-    9,
-    9,
-    9,
-    9,
-    9,
-    9,
-    9,
-    9,
-    9,
-    9,
-    9,
-    9,
-    9,
-    9,
-    9,
-    9,
-    9,
-    9,
-    9,
-    9,
-    9,
-    9,
-    9,
-    9,
-    9,
-    9,
-    9,
-    9,
-    9,
-    9,
-    9,
-    9,
-    9,
-    9,
-    9,
-    9,
-    9,
-    9,
-    9,
-    9,
-    9,
-    9,
-    9,
-    9,
-    9,
-    9,
-    9,
-    9,
-    9,
-    9,
-    9,
-    9,
-    9,
-    9,
-    9,
-];
+// ---- one symbol
 
-pub fn code_of(symbol: u8) -> u8
-    ensures { λ r. ⌜ (r ≡ codeOf symbol) × (r ≤ 9) ⌝ }
+// The byte is 0 or 1; 0, 1, Z or X; one of the nine symbols.
+fn is_bit(symbol: u8) -> bool
+    ensures { λ r. ⌜ r ≡ ltb (codeOf symbol) 2 ⌝ }
 {
-    CODES[symbol as usize]
+    (symbol == b'0') | (symbol == b'1')
 }
 
-fn larger(a: u8, b: u8) -> u8
-    ensures { λ r. ⌜ r ≡ max a b ⌝ }
+fn is_one_of_four(symbol: u8) -> bool
+    ensures { λ r. ⌜ r ≡ ltb (codeOf symbol) 4 ⌝ }
 {
-    if a < b { b } else { a }
+    is_bit(symbol) | ((symbol == b'Z') | (symbol == b'X'))
 }
 
-// What decides on a command: whether all symbols are the first, and the highest code.
+fn is_symbol(symbol: u8) -> bool
+    ensures { λ r. ⌜ r ≡ ltb (codeOf symbol) 9 ⌝ }
+{
+    (is_one_of_four(symbol) | ((symbol == b'H') | (symbol == b'U')))
+        | ((symbol == b'W') | ((symbol == b'L') | (symbol == b'-')))
+}
+
+// The code of 0, 1, Z or X.
+fn code_of_four(symbol: u8) -> u8
+    ensures { λ r. ⌜ Coded symbol 4 r × (r < 4) ⌝ }
+{
+    (symbol as u32 * 107 / 64 % 4) as u8
+}
+
+// The code of any symbol: each has a place of its own among the 16 of a constant.
+fn code_of(symbol: u8) -> u8
+    ensures { λ r. ⌜ Coded symbol 9 r × (r < 16) ⌝ }
+{
+    let place = symbol as u32 * 9 / 4 % 16;
+    ((0x5100_7200_0380_6400_u64 >> (4 * place)) % 16) as u8
+}
+
+// ---- the command
+
+// All symbols are the first; all are 0 or 1.
 pub struct Seen {
     pub same: bool,
-    pub highest: u8,
+    pub bits: bool,
 }
 
 fn look(values: &[u8], start: usize, end: usize) -> Seen
     requires { ⌜ (start < end) × (end ≤ length (now values)) ⌝ }
-    ensures { λ r. ⌜ (r .same ≡ sameAll (slice start end (now (values .entry)))) × (r .highest ≡ highestCode (slice start end (now (values .entry)))) ⌝ }
+    ensures { λ r. ⌜ (r .same ≡ sameAll (slice start end (now (values .entry)))) × (r .bits ≡ allBelow 2 (slice start end (now (values .entry)))) ⌝ }
 {
     let first = values[start];
     let mut same = true;
-    let mut highest: u8 = 0;
+    let mut bits = true;
     let mut i = start;
     while i < end {
         let symbol = values[i];
         same = same & (symbol == first);
-        highest = larger(highest, code_of(symbol));
+        bits = bits & is_bit(symbol);
         i += 1;
     }
-    Seen { same, highest }
+    Seen { same, bits }
+}
+
+// All are 0, 1, Z or X; all are symbols.
+pub struct Further {
+    pub four: bool,
+    pub nine: bool,
+}
+
+fn look_further(values: &[u8], start: usize, end: usize) -> Further
+    requires { ⌜ (start < end) × (end ≤ length (now values)) ⌝ }
+    ensures { λ r. ⌜ (r .four ≡ allBelow 4 (slice start end (now (values .entry)))) × (r .nine ≡ allBelow 9 (slice start end (now (values .entry)))) ⌝ }
+{
+    let mut four = true;
+    let mut nine = true;
+    let mut i = start;
+    while i < end {
+        let symbol = values[i];
+        four = four & is_one_of_four(symbol);
+        nine = nine & is_symbol(symbol);
+        i += 1;
+    }
+    Further { four, nine }
 }
 
 // The answer of `command` where a byte is no symbol.
 pub const NONE: u8 = 16;
+
+// The command that says that all symbols are this one.
+fn command_of_one(symbol: u8) -> u8
+    ensures { λ r. ⌜ OneCommand symbol r ⌝ }
+{
+    if is_symbol(symbol) {
+        return 3 + code_of(symbol);
+    }
+    NONE
+}
 
 // The command that holds these symbols in the fewest bytes.
 pub fn command(values: &[u8], start: usize, end: usize) -> u8
@@ -317,33 +113,42 @@ pub fn command(values: &[u8], start: usize, end: usize) -> u8
     ensures { λ r. ⌜ Chosen (slice start end (now (values .entry))) r ⌝ }
 {
     let seen = look(values, start, end);
-    if 8 < seen.highest {
-        return NONE;
-    }
     if seen.same {
-        return 3 + code_of(values[start]);
+        return command_of_one(values[start]);
     }
-    if seen.highest < 2 {
+    if seen.bits {
         return 0;
     }
-    if seen.highest < 4 {
+    let further = look_further(values, start, end);
+    if further.four {
         return 1;
     }
-    2
+    if further.nine {
+        return 2;
+    }
+    NONE
 }
 
 // ---- packing, the first symbol highest
 
-// The byte of 8 codes of 1 bit. The codes of '0' and '1' are their lowest bits.
+// The 4 bits of 4 symbols that are 0 or 1. They stand at 24, 16, 8 and 0 in `bits`; the product has each of them
+// at 27, 26, 25 and 24 once, and nothing else there.
+fn nibble(values: &[u8], at: usize) -> u8
+    requires { ⌜ Whole (now values) 1 4 at ⌝ }
+    ensures { λ r. ⌜ (r ≡ packedCodes 1 4 (map codeOf (slice at (at + 4) (now (values .entry))))) × (r < 16) ⌝ }
+{
+    let high = values[at] as u32 * 0x100_0000 + values[at + 1] as u32 * 0x1_0000;
+    let low = values[at + 2] as u32 * 0x100 + values[at + 3] as u32;
+    let bits = high + low - 0x3030_3030;
+    (bits as u64 * 0x0102_0408 / 0x100_0000 % 16) as u8
+}
+
+// The byte of 8 codes of 1 bit.
 fn eight(values: &[u8], at: usize) -> u8
     requires { ⌜ Whole (now values) 1 8 at ⌝ }
     ensures { λ r. ⌜ r ≡ packedCodes 1 8 (map codeOf (slice at (at + 8) (now (values .entry)))) ⌝ }
 {
-    let a = values[at] % 2 * 128 + values[at + 1] % 2 * 64;
-    let b = values[at + 2] % 2 * 32 + values[at + 3] % 2 * 16;
-    let c = values[at + 4] % 2 * 8 + values[at + 5] % 2 * 4;
-    let d = values[at + 6] % 2 * 2 + values[at + 7] % 2;
-    a + b + c + d
+    nibble(values, at) * 16 + nibble(values, at + 4)
 }
 
 // The byte of 4 codes of 2 bits.
@@ -351,8 +156,8 @@ fn four(values: &[u8], at: usize) -> u8
     requires { ⌜ Whole (now values) 2 4 at ⌝ }
     ensures { λ r. ⌜ r ≡ packedCodes 2 4 (map codeOf (slice at (at + 4) (now (values .entry)))) ⌝ }
 {
-    let a = code_of(values[at]) % 4 * 64 + code_of(values[at + 1]) % 4 * 16;
-    let b = code_of(values[at + 2]) % 4 * 4 + code_of(values[at + 3]) % 4;
+    let a = code_of_four(values[at]) * 64 + code_of_four(values[at + 1]) * 16;
+    let b = code_of_four(values[at + 2]) * 4 + code_of_four(values[at + 3]);
     a + b
 }
 
@@ -394,7 +199,7 @@ fn base_of(b: usize) -> u32
 
 // The code k places behind `at`, and 0 from `end` on.
 fn digit(values: &[u8], at: usize, k: usize, end: usize) -> u8
-    requires { ⌜ (at ≤ end) × (end ≤ length (now values)) ⌝ }
+    requires { ⌜ (at ≤ end) × (end ≤ length (now values)) × Symbols (now values) at end ⌝ }
     ensures { λ r. ⌜ r ≡ getD (map codeOf (slice (at + k) end (now (values .entry)))) 0 0 ⌝ }
 {
     if k < end - at {

@@ -2,6 +2,8 @@ use Rattle.lxt_pack.proofs.PackLaws.{two-is}
 use borrow.Author.Needs.{needs}
 use Rattle.lxt_pack.proofs.symbols.two.Statement.{statement}
 use Rattle.lxt_pack.proofs.symbols.two.Tie as tie
+use Rattle.lxt_pack.proofs.symbols.two.Reads as reads
+use Rattle.lxt_pack.proofs.symbols.two.Lts as lts
 use Rattle.lxt_pack.proofs.symbols.code_of.Reads as code-of-reads
 
 shared-slice-read-code-of : tie.Need-shared-slice-read-code-of
@@ -26,7 +28,7 @@ add-result : tie.Need-add-result
 add-result c = search needs
 
 returns : tie.Need-returns
-returns c = two-is _ _ (c .before .before .before .before .before .pre) _ _ (c .before .before .code-of .ensures .0) (c .code-of2 .ensures .0)
+returns c = let start = c .before .before .before .before .before in two-is (start .args .values .now) (start .args .at) (λ i. c .before .before .before .before .shared-slice-known .given i .fits) (start .pre) _ _ (c .before .before .code-of .ensures .0) (c .code-of2 .ensures .0)
 
 pub two-spec : {M : Type 1} → statement M
 two-spec =
