@@ -6,8 +6,8 @@ use native.Mathlib.Decide.{ℕ-discrete}
 use mathlib.Core.Path.{_≡_, refl, sym, ap, _∙_}
 use mathlib.Core.Bool.{Bool, true, false, _&&_}
 use mathlib.Core.List.{List, [], _∷_, _++_, map}
-use lib.ListN.{length, getD, take, length-append}
-use lib.Seq.{slice, length-slice, getD-take, getD-drop}
+use lib.ListN.{length, getD, take, set, length-append}
+use lib.Seq.{slice, length-slice, getD-take, getD-drop, set-getD, getD-set-other}
 use lib.Dec.{ltb, eqb}
 use borrow.Author.Tests.{ltb-true, eqb-true, eq-eqb, ne-eqb}
 use Rattle.lxt_format.specs.Basics.{if_then_else_, all}
@@ -21,16 +21,12 @@ use Rattle.lxt_written.specs.WrittenChanges.{bigEndian, codeOf, canHold, comman
 use Rattle.lxt_written.specs.Writing.{isSymbol, isBit, valueAllowed}
 use Rattle.lxt_written.specs.CommandLaws.{code-small, length-change, length-packed, value-symbols, value-length, command-bound, command-holds, held-codes}
 use Rattle.lxt_pack.specs.Symbols.{Chosen, Size, Holding, Packing}
-use Rattle.lxt_pack.specs.Change.{Part, WidthFor, headOf, Held, Sound, Puts}
-use Rattle.lxt_pack.proofs.SizeLaws.{bits-symbols, integer-command}
+use Rattle.lxt_pack.specs.Change.{Part, WidthFor, headOf, Scales, HeadAsked, Held, Sound, Puts}
+use Rattle.lxt_pack.proofs.PutLaws.{stored-two, stored-three, stored-four}
+use Rattle.lxt_pack.proofs.SizeLaws.{one-small, two-small, bits-symbols, integer-command}
 
 -- ---- the command byte and the delta
 
--- a delta of k bytes, where k is known
-pub delta-put : (out out′ : List ℕ) (at k j delta : ℕ) → k ≡ j → out′ ≡ placed out at (bigEndian j delta) → out′ ≡ placed out at (bigEndian k delta)
-delta-put out out′ at k j delta e h = rw e h
-
--- a number of one byte
 pub one-byte : (x : ℕ) → x < 256 → bigEndian 1 x ≡ x ∷ []
 unfolding bigEndian
 one-byte x h = let e : x / 1 % 256 ≡ x = omega arith in rw e
@@ -40,16 +36,48 @@ pub head-long : (command delta : ℕ) → length (headOf command delta) ≡ 1 + 
 unfolding headOf
 head-long command delta = let e = length-bigEndian (fewestBytes delta) delta in omega arith
 
-pub head-put : (out one two : List ℕ) (at command k delta : ℕ) → k ≡ fewestBytes delta → 1 ≤ k → k ≤ 4 → command < 16
-    → at + (1 + fewestBytes delta) ≤ length out
-    → one ≡ placed out at (bigEndian 1 (16 * (k - 1) + command)) → two ≡ placed one (at + 1) (bigEndian k delta)
-    → two ≡ placed out at (headOf command delta)
-unfolding headOf
-head-put out one two at command k delta e some most small room first second =
-    let byte : bigEndian 1 (16 * (k - 1) + command) ≡ (16 * (k - 1) + command) ∷ [] = one-byte (16 * (k - 1) + command) (omega arith) in
-    let joined : two ≡ placed out at ((16 * (k - 1) + command) ∷ bigEndian k delta) =
-    second ∙ rw (first, byte) (placed-more out at ((16 * (k - 1) + command) ∷ []) (bigEndian k delta) (omega arith)) in
-    rw (← e) joined
+-- a byte stored where it was
+stored-again : (b : List ℕ) (i x : ℕ) → x ≡ getD b i 0 → set b i x ≡ b
+stored-again b i x e = rw e (set-getD b i 0)
+
+-- what stands behind is as it was
+behind-two : (b : List ℕ) (at x y i : ℕ) → (i ≡ at → ⊥) → (i ≡ at + 1 → ⊥) → getD (set (set b at x) (at + 1) y) i 0 ≡ getD b i 0
+behind-two b at x y i n m = getD-set-other (set b at x) (at + 1) i y 0 m ∙ getD-set-other b at i x 0 n
+
+-- 1, 2 or 3 bytes of a delta at the top of three, and the bytes behind them as they were
+pub head-put : (out : List ℕ) (at command delta k scale second third c d : ℕ) → HeadAsked command delta out at
+    → k ≡ fewestBytes delta → Scales k scale → second ≡ getD out (at + 2) 0 → third ≡ getD out (at + 3) 0
+    → c ≡ (if ltb 1 k then delta * scale / 256 % 256 else second) → d ≡ (if ltb 2 k then delta * scale % 256 else third)
+    → set (set (set (set out at (16 * (k - 1) + command)) (at + 1) (delta * scale / 65536)) (at + 2) c) (at + 3) d ≡ placed out at (headOf command delta)
+unfolding headOf bigEndian
+head-put out at command delta k scale second third c d a ek Scales.one es et ec ed =
+    let x : ℕ = 16 * (k - 1) + command in
+    let y : ℕ = delta * scale / 65536 in
+    let small = one-small delta (sym ek) in
+    let two : List ℕ = set (set out at x) (at + 1) y in
+    let b₂ : set two (at + 2) c ≡ two = stored-again two (at + 2) c (ec ∙ es ∙ sym (behind-two out at x y (at + 2) (λ e. omega arith) (λ e. omega arith))) in
+    let b₃ : set two (at + 3) d ≡ two = stored-again two (at + 3) d (ed ∙ et ∙ sym (behind-two out at x y (at + 3) (λ e. omega arith) (λ e. omega arith))) in
+    let same : y ≡ delta / 1 % 256 = omega arith in
+    rw (b₂, b₃, ← ek) (stored-two out at x y (omega (arith, a .room)) ∙ rw same)
+head-put out at command delta k scale second third c d a ek Scales.two es et ec ed =
+    let x : ℕ = 16 * (k - 1) + command in
+    let y : ℕ = delta * scale / 65536 in
+    let small = two-small delta (sym ek) in
+    let three : List ℕ = set (set (set out at x) (at + 1) y) (at + 2) c in
+    let old : getD three (at + 3) 0 ≡ getD out (at + 3) 0 =
+    getD-set-other (set (set out at x) (at + 1) y) (at + 2) (at + 3) c 0 (λ e. omega arith) ∙ behind-two out at x y (at + 3) (λ e. omega arith) (λ e. omega arith) in
+    let b₃ : set three (at + 3) d ≡ three = stored-again three (at + 3) d (ed ∙ et ∙ sym old) in
+    let first : y ≡ delta / 256 % 256 = omega arith in
+    let last : c ≡ delta / 1 % 256 = ec ∙ omega arith in
+    rw (b₃, ← ek) (stored-three out at x y c (omega (arith, a .room)) ∙ rw (first, last))
+head-put out at command delta k scale second third c d a ek Scales.three es et ec ed =
+    let x : ℕ = 16 * (k - 1) + command in
+    let y : ℕ = delta * scale / 65536 in
+    let small = a .delta-small in
+    let first : y ≡ delta / 65536 % 256 = omega arith in
+    let middle : c ≡ delta / 256 % 256 = ec ∙ omega arith in
+    let last : d ≡ delta / 1 % 256 = ed ∙ omega arith in
+    rw (← ek) (stored-four out at x y c d (omega (arith, a .room)) ∙ rw (first, middle, last))
 
 -- ---- symbols
 
@@ -162,12 +190,11 @@ module _ (v : List ℕ) (start end delta : ℕ) (out : List ℕ) (at : ℕ) (s :
   pub bits-command-is : (c : ℕ) → Chosen (slice start end v) c → c ≡ commandFor Bits (slice start end v)
   bits-command-is c h = h .command ∙ rw (value-symbols Bits (s .width) (slice start end v) refl (s .allowed))
 
-  pub bits-head : (c : ℕ) → Chosen (slice start end v) c → (c < 16) × (at + (1 + fewestBytes delta) ≤ length out)
+  pub bits-head : (c : ℕ) → Chosen (slice start end v) c → HeadAsked c delta out at
   bits-head c h =
       let e = bits-command-is c h in
       let b = command-bound Bits (slice start end v) in
-      let r = sound-room Bits v start end delta out at s in
-      (omega arith, omega arith)
+      record { command-small = omega arith; delta-small = s .delta-small; room = s .spare }
 
   data-long : (c : ℕ) → Chosen (slice start end v) c → packedSize (symbolSize c) (end - start) ≡ length (dataFor Bits (slice start end v))
   unfolding dataFor
@@ -203,8 +230,8 @@ module _ (v : List ℕ) (start end delta : ℕ) (out : List ℕ) (at : ℕ) (s :
 -- ---- a real
 
 module _ (v : List ℕ) (start end delta : ℕ) (out : List ℕ) (at : ℕ) (s : Sound Real v start end delta out at) where
-  pub real-head : (0 < 16) × (at + (1 + fewestBytes delta) ≤ length out)
-  real-head = let r = sound-room Real v start end delta out at s in (omega arith, omega arith)
+  pub real-head : HeadAsked 0 delta out at
+  real-head = record { command-small = omega arith; delta-small = s .delta-small; room = s .spare }
 
   real-long : end - start ≡ length (dataFor Real (slice start end v))
   unfolding dataFor
@@ -235,8 +262,8 @@ module _ (v : List ℕ) (start end delta : ℕ) (out : List ℕ) (at : ℕ) (s :
 -- ---- a text
 
 module _ (v : List ℕ) (start end delta : ℕ) (out : List ℕ) (at : ℕ) (s : Sound Text v start end delta out at) where
-  pub text-head : (0 < 16) × (at + (1 + fewestBytes delta) ≤ length out)
-  text-head = let r = sound-room Text v start end delta out at s in (omega arith, omega arith)
+  pub text-head : HeadAsked 0 delta out at
+  text-head = record { command-small = omega arith; delta-small = s .delta-small; room = s .spare }
 
   text-long : end - start + 1 ≡ length (dataFor Text (slice start end v))
   unfolding dataFor
@@ -293,6 +320,8 @@ module _ (v : List ℕ) (start end delta : ℕ) (out : List ℕ) (at : ℕ) (s :
         wide = (omega arith, omega arith);
         allowed = both-and (eqb (length (slice start end v)) 32) (all isSymbol (slice start end v)) (eq-eqb _ _ (b .0)) (bits-symbols (slice start end v) (b .1));
         room = rw (← same-change) (s .room);
+        spare = s .spare;
+        delta-small = s .delta-small;
       }
 
   pub integer-put : (two : List ℕ) (r : ℕ) → Puts Bits (slice start end v) delta out at two r → Puts Integer (slice start end v) delta out at two r

@@ -2,6 +2,7 @@
 use Prim.Native.Nat.{ℕ, zero, suc, _+_, _*_, _-_, _/_, _%_, _^_, _≤_, _<_, max}
 use native.Mathlib.Nat.{add-zero, add-mul, mul-assoc, mul-comm, mul-suc, mul-zero, mul-le-mul, le-refl}
 use native.Mathlib.Omega.{arith}
+use native.Mathlib.Numerals.{add-one}
 use mathlib.Core.Path.{_≡_, refl, sym, ap, _∙_}
 use mathlib.Core.Bool.{Bool, true, false, _&&_, _||_}
 use mathlib.Core.List.{List, [], _∷_, _++_, map}
@@ -12,8 +13,8 @@ use lib.Seq.{slice, slice-cons, slice-empty, length-slice, drop-drop}
 use Rattle.lxt_format.specs.Buffers.{placed, placed-none}
 use Rattle.lxt_pack.proofs.PutLaws.{stored-one, placed-next}
 use lib.Dec.{leb, ltb, eqb, lit<, lit≤}
-use borrow.Author.Tests.{eqb-true, leb-true}
-use Rattle.lxt_format.specs.Basics.{range, all}
+use borrow.Author.Tests.{eqb-true, leb-true, ltb-true}
+use Rattle.lxt_format.specs.Basics.{if_then_else_, range, all}
 use Rattle.lxt_format.specs.BasicsLaws.{all-range, and-both, or-either}
 use Rattle.lxt_format.specs.Reals.{placeOf}
 use Rattle.lxt_format.specs.Changes.{packedSize}
@@ -33,16 +34,30 @@ four-coded b h k =
     let e = all-range (λ x. leb 4 (codeOf x) || eqb (x * 107 / 64 % 4) (codeOf x)) 0 256 four-codes b (omega arith) (omega arith) in
     or-either (leb 4 (codeOf b)) (eqb (b * 107 / 64 % 4) (codeOf b)) e (λ q. let l = leb-true 4 (codeOf b) q in absurd (omega arith)) (λ q. eqb-true _ _ q)
 
--- all symbols
-nine-codes : all (λ b. leb 9 (codeOf b) || eqb (0x5100720003806400 / 2 ^ (4 * (b * 9 / 4 % 16)) % 16) (codeOf b)) (range 0 256) ≡ true
+-- all symbols, by tests one after the other
+abbrev picked : ℕ → ℕ → ℕ → ℕ
+picked b symbol code = if eqb b symbol then code else 0
+
+abbrev codeSum : ℕ → ℕ
+codeSum b =
+    picked b 0x31 1 + picked b 0x5A 2 + picked b 0x58 3 + (picked b 0x48 4 + picked b 0x55 5) + (picked b 0x57 6 + picked b 0x4C 7) + picked b 0x2D 8
+
+nine-codes : all (λ b. (leb 9 (codeOf b) || eqb (codeSum b) (codeOf b)) && ltb (codeSum b) 16) (range 0 256) ≡ true
 unfolding all range codeOf placeOf
 nine-codes = refl
 
-pub nine-coded : (b : ℕ) → b < 256 → Coded b 9 (0x5100720003806400 / 2 ^ (4 * (b * 9 / 4 % 16)) % 16)
-nine-coded b h k =
-    let e = all-range (λ x. leb 9 (codeOf x) || eqb (0x5100720003806400 / 2 ^ (4 * (x * 9 / 4 % 16)) % 16) (codeOf x)) 0 256 nine-codes b (omega arith) (omega arith) in
-    or-either (leb 9 (codeOf b)) (eqb (0x5100720003806400 / 2 ^ (4 * (b * 9 / 4 % 16)) % 16) (codeOf b)) e
-    (λ q. let l = leb-true 9 (codeOf b) q in absurd (omega arith)) (λ q. eqb-true _ _ q)
+nine-coded : (b : ℕ) → b < 256 → Coded b 9 (codeSum b) × (codeSum b < 16)
+nine-coded b h =
+    let e = all-range (λ x. (leb 9 (codeOf x) || eqb (codeSum x) (codeOf x)) && ltb (codeSum x) 16) 0 256 nine-codes b (omega arith) (omega arith) in
+    let both = and-both (leb 9 (codeOf b) || eqb (codeSum b) (codeOf b)) (ltb (codeSum b) 16) e in (
+      λ k. or-either (leb 9 (codeOf b)) (eqb (codeSum b) (codeOf b)) (both .0) (λ q. let l = leb-true 9 (codeOf b) q in absurd (omega arith)) (λ q. eqb-true _ _ q),
+      ltb-true (codeSum b) 16 (both .1),
+    )
+
+pub code-sum : (b : ℕ) → b < 256 → (c d e f g h i j : ℕ) → c ≡ picked b 0x31 1 → d ≡ picked b 0x5A 2 → e ≡ picked b 0x58 3 → f ≡ picked b 0x48 4 → g ≡ picked b 0x55 5
+    → h ≡ picked b 0x57 6 → i ≡ picked b 0x4C 7 → j ≡ picked b 0x2D 8
+    → Coded b 9 (c + d + e + (f + g) + (h + i) + j) × (c + d + e + (f + g) + (h + i) + j < 16)
+code-sum b k c d e f g h i j ec ed ee ef eg eh ei ej = rw (ec, ed, ee, ef, eg, eh, ei, ej) (nine-coded b k)
 
 -- a byte whose code is 0 or 1 is '0' or '1'
 low-all : all (λ b. leb 2 (codeOf b) || eqb b (0x30 + codeOf b)) (range 0 256) ≡ true
@@ -223,17 +238,14 @@ size-two-bits b Size.one n m = absurd (n refl)
 size-two-bits b Size.two n m = absurd (m refl)
 size-two-bits b Size.four n m = refl
 
-pub whole-of : (v : List ℕ) (b at k : ℕ) → Holding v b at (at + 8 / b) → b ≡ k → Whole v k (8 / k) at
-whole-of v b at k h e =
+-- the symbols of a byte
+whole-of : (v : List ℕ) (b at : ℕ) → Holding v b at (at + 8 / b) → Whole v b (8 / b) at
+whole-of v b at h =
     record {
-      within = rw (← e) (h .within);
-      codes = λ i l. rw (← e) (let l′ : i < 8 / b = rw e l in h .codes (at + i) (omega arith) (omega arith));
-      known = λ i l. let l′ : i < 8 / b = rw e l in h .known (at + i) (omega arith) (omega arith);
+      within = h .within;
+      codes = λ i l. h .codes (at + i) (omega arith) (omega arith);
+      known = λ i l. h .known (at + i) (omega arith) (omega arith);
     }
-
-pub packed-of : (v : List ℕ) (b at k r : ℕ) → b ≡ k → r ≡ packedCodes k (8 / k) (map codeOf (slice at (at + 8 / k) v))
-    → r ≡ packedCodes b (8 / b) (map codeOf (slice at (at + 8 / b) v))
-packed-of v b at k r e h = rw e h
 
 -- ---- a part of the codes
 
@@ -390,18 +402,18 @@ pub record Packed (v : List ℕ) (start end b : ℕ) (out : List ℕ) (at : ℕ)
   pub room : q + packedSize b (end - p) ≤ length out
   pub long : length out′ ≡ length out
 
-pub pack-begun : (v : List ℕ) (start end b : ℕ) (out : List ℕ) (at : ℕ) → Packing v start end b out at → Packed v start end b out at out start at
+pack-begun : (v : List ℕ) (start end b : ℕ) (out : List ℕ) (at : ℕ) → Packing v start end b out at → Packed v start end b out at out start at
 pack-begun v start end b out at k = record { left = refl; from = le-refl start; upto = k .holding .upto; room = k .room; long = refl }
 
 module _ (v : List ℕ) (start end b : ℕ) (out : List ℕ) (at : ℕ) (k : Packing v start end b out at) (out′ : List ℕ) (p q : ℕ) (w : Packed v start end b out at out′ p q) where
   -- what a byte asks of its symbols
-  pub pack-whole : 8 / b ≤ end - p → Holding v b p (p + 8 / b)
+  pack-whole : 8 / b ≤ end - p → Holding v b p (p + 8 / b)
   pack-whole h =
       let g = k .holding in
       let u = w .upto in
       record { size = g .size; upto = omega arith; within = omega (arith, g .within); codes = λ i l m. g .codes i (omega (arith, w .from)) (omega arith); known = λ i l m. g .known i (omega (arith, w .from)) (omega arith) }
 
-  pub pack-rest : Holding v b p end
+  pack-rest : Holding v b p end
   pack-rest =
       let g = k .holding in
       record { size = g .size; upto = w .upto; within = g .within; codes = λ i l m. g .codes i (omega (arith, w .from)) m; known = λ i l m. g .known i (omega (arith, w .from)) m }
@@ -411,7 +423,7 @@ module _ (v : List ℕ) (start end b : ℕ) (out : List ℕ) (at : ℕ) (k : Pac
       let e : end - (p + 8 / b) ≡ end - p - 8 / b = omega arith in
       rw e (size-next b (end - p) (k .holding .size) (omega arith))
 
-  pub pack-turn : 8 / b ≤ end - p → (x : ℕ) → x ≡ packedCodes b (8 / b) (map codeOf (slice p (p + 8 / b) v))
+  pack-turn : 8 / b ≤ end - p → (x : ℕ) → x ≡ packedCodes b (8 / b) (map codeOf (slice p (p + 8 / b) v))
       → Packed v start end b out at (set out′ q x) (p + 8 / b) (q + 1)
   unfolding pack
   pack-turn lh x ex =
@@ -432,14 +444,14 @@ module _ (v : List ℕ) (start end b : ℕ) (out : List ℕ) (at : ℕ) (k : Pac
         long = length-set out′ q x ∙ w .long;
       }
 
-  pub pack-last : end - p < 8 / b → p < end → (x : ℕ) → x ≡ packedCodes b (8 / b) (map codeOf (slice p end v)) → set out′ q x ≡ placed out at (bytesFrom v b start end)
+  pack-last : end - p < 8 / b → p < end → (x : ℕ) → x ≡ packedCodes b (8 / b) (map codeOf (slice p end v)) → set out′ q x ≡ placed out at (bytesFrom v b start end)
   unfolding pack
   pack-last h l x ex =
       let n : packedSize b (end - p) ≡ 1 = size-last b (end - p) (k .holding .size) (omega arith) (omega arith) in
       let one : bytesFrom v b p end ≡ x ∷ [] = rw (n, ex) in
       stored-one out′ q x (omega (arith, w .room, w .long)) ∙ ap (λ t. placed out′ q t) (sym one) ∙ w .left
 
-  pub pack-ended : end ≤ p → out′ ≡ placed out at (bytesFrom v b start end)
+  pack-ended : end ≤ p → out′ ≡ placed out at (bytesFrom v b start end)
   unfolding pack
   pack-ended h =
       let z : end - p ≡ 0 = omega arith in
@@ -456,13 +468,95 @@ small-product sum base h k = let l : sum ≤ 255 = omega arith in mul-le-mul l k
 
 -- there is room for each byte
 module _ (v : List ℕ) (start end b : ℕ) (out : List ℕ) (at : ℕ) (k : Packing v start end b out at) (out′ : List ℕ) (p q : ℕ) (w : Packed v start end b out at out′ p q) where
-  pub pack-room : 8 / b ≤ end - p → q < length out′
+  pack-room : 8 / b ≤ end - p → q < length out′
   pack-room h =
       let u = w .upto in
       let n = size-next b (end - p) (k .holding .size) h in
       omega (arith, w .room, w .long)
 
-  pub pack-room-last : end - p < 8 / b → p < end → q < length out′
+  pack-room-last : end - p < 8 / b → p < end → q < length out′
   pack-room-last h l =
       let n = size-last b (end - p) (k .holding .size) (omega arith) h in
       omega (arith, w .room, w .long)
+
+-- ---- byte j of the whole ones
+
+-- byte j holds symbols that are there
+count-left : (b : ℕ) → Size b → (w j : ℕ) → j < w / (8 / b) → 8 / b * j + 8 / b ≤ w
+count-left b Size.one w j h = omega arith
+count-left b Size.two w j h = omega arith
+count-left b Size.four w j h = omega arith
+
+-- behind the whole ones are fewer symbols than fill a byte
+count-rest : (b : ℕ) → Size b → (w : ℕ) → (8 / b * (w / (8 / b)) ≤ w) × (w - 8 / b * (w / (8 / b)) < 8 / b)
+count-rest b Size.one w = (omega arith, omega arith)
+count-rest b Size.two w = (omega arith, omega arith)
+count-rest b Size.four w = (omega arith, omega arith)
+
+-- the symbols of j bytes are packed
+pub record Counting (v : List ℕ) (start end b : ℕ) (out : List ℕ) (at : ℕ) (out′ : List ℕ) (j : ℕ) : Type 0 where
+  pub packed : Packed v start end b out at out′ (start + 8 / b * j) (at + j)
+  pub upto : j ≤ (end - start) / (8 / b)
+
+module _ (v : List ℕ) (start end b : ℕ) (out : List ℕ) (at : ℕ) (k : Packing v start end b out at) where
+  pub count-begun : Counting v start end b out at out 0
+  count-begun =
+      let z : start + 8 / b * 0 ≡ start = ap (λ n. start + n) (mul-zero (8 / b)) ∙ add-zero start in
+      let y : at + 0 ≡ at = add-zero at in
+      record { packed = rw (z, y) (pack-begun v start end b out at k); upto = omega arith }
+
+  module _ (out′ : List ℕ) (j : ℕ) (w : Counting v start end b out at out′ j) where
+    module _ (h : j < (end - start) / (8 / b)) where
+      left : 8 / b ≤ end - (start + 8 / b * j)
+      left = omega (arith, count-left b (k .holding .size) (end - start) j h, k .holding .upto)
+
+      pub count-whole : Whole v b (8 / b) (start + 8 / b * j)
+      count-whole = whole-of v b (start + 8 / b * j) (pack-whole v start end b out at k out′ (start + 8 / b * j) (at + j) (w .packed) left)
+
+      pub count-room : at + j < length out′
+      count-room = pack-room v start end b out at k out′ (start + 8 / b * j) (at + j) (w .packed) left
+
+      pub count-turn : (x : ℕ) → x ≡ packedCodes b (8 / b) (map codeOf (slice (start + 8 / b * j) (start + 8 / b * j + 8 / b) v)) → Counting v start end b out at (set out′ (at + j) x) (j + 1)
+      count-turn x e =
+          let one : 8 / b * (j + 1) ≡ 8 / b * j + 8 / b = rw (add-one j) (mul-suc (8 / b) j) in
+          let p : start + 8 / b * (j + 1) ≡ start + 8 / b * j + 8 / b = omega arith in
+          let q : at + (j + 1) ≡ at + j + 1 = omega arith in
+          record { packed = rw (p, q) (pack-turn v start end b out at k out′ (start + 8 / b * j) (at + j) (w .packed) left x e); upto = omega arith }
+
+    module _ (over : (end - start) / (8 / b) ≤ j) where
+      count : ℕ
+      count = (end - start) / (8 / b)
+
+      all-packed : Packed v start end b out at out′ (start + 8 / b * count) (at + count)
+      unfolding count
+      all-packed = let e : j ≡ (end - start) / (8 / b) = omega (arith, w .upto) in rw e at (w .packed)
+
+      few : end - (start + 8 / b * count) < 8 / b
+      unfolding count
+      few = let r = count-rest b (k .holding .size) (end - start) in omega (arith, r .0, r .1)
+
+      pub count-rest-holds : Holding v b (start + 8 / b * ((end - start) / (8 / b))) end
+      unfolding count
+      count-rest-holds = pack-rest v start end b out at k out′ (start + 8 / b * count) (at + count) all-packed
+
+      pub count-rest-room : start + 8 / b * ((end - start) / (8 / b)) < end → at + (end - start) / (8 / b) < length out′
+      unfolding count
+      count-rest-room h = pack-room-last v start end b out at k out′ (start + 8 / b * count) (at + count) all-packed few h
+
+      pub count-last : start + 8 / b * ((end - start) / (8 / b)) < end → (x : ℕ)
+          → x ≡ packedCodes b (8 / b) (map codeOf (slice (start + 8 / b * ((end - start) / (8 / b))) end v))
+          → set out′ (at + (end - start) / (8 / b)) x ≡ placed out at (bytesFrom v b start end)
+      unfolding count
+      count-last h x e = pack-last v start end b out at k out′ (start + 8 / b * count) (at + count) all-packed few h x e
+
+      pub count-ended : end ≤ start + 8 / b * ((end - start) / (8 / b)) → out′ ≡ placed out at (bytesFrom v b start end)
+      unfolding count
+      count-ended h = pack-ended v start end b out at k out′ (start + 8 / b * count) (at + count) all-packed h
+
+-- ---- the three sizes
+
+pub packing-of : (v : List ℕ) (start end b n : ℕ) (out : List ℕ) (at : ℕ) → b ≡ n → Packing v start end b out at → Packing v start end n out at
+packing-of v start end b n out at e k = rw e at k
+
+pub packed-of : (v : List ℕ) (start end b n : ℕ) (out : List ℕ) (at : ℕ) (out′ : List ℕ) → b ≡ n → out′ ≡ placed out at (bytesFrom v n start end) → out′ ≡ placed out at (bytesFrom v b start end)
+packed-of v start end b n out at out′ e h = rw e h

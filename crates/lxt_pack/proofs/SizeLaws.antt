@@ -8,7 +8,7 @@ use mathlib.Core.List.{List, [], _∷_, _++_}
 use lib.ListN.{length, getD, length-append}
 use lib.Seq.{slice, length-slice}
 use lib.Dec.{leb, ltb, eqb, lit<}
-use native.Mathlib.Decide.{ℕ-discrete}
+use native.Mathlib.Decide.{ℕ-discrete, decLe}
 use borrow.Author.Tests.{lt-ltb, le-ltb, eq-eqb, ne-eqb, eqb-true, ltb-true}
 use Rattle.lxt_format.specs.Basics.{if_then_else_, all, any}
 use Rattle.lxt_format.specs.Reals.{placeOf}
@@ -22,7 +22,7 @@ use Rattle.lxt_written.specs.WrittenChanges.{codeOf, canHold, commandFor, packe
 use Rattle.lxt_written.specs.Writing.{noZero, isSymbol, isBit, valueAllowed}
 use Rattle.lxt_written.specs.CommandLaws.{length-packed, value-symbols, integer-codes, command-one, command-0, bit-symbol, bit-code, command-bound, command-holds, held-one, held-codes, no-data}
 use Rattle.lxt_pack.specs.Symbols.{Chosen}
-use Rattle.lxt_pack.specs.Change.{Part, WidthFor, notAllowed, sizeFor, Sizes}
+use Rattle.lxt_pack.specs.Change.{Part, WidthFor, notAllowed, sizeFor, Sizes, Scales}
 
 -- ---- deltas
 
@@ -48,13 +48,56 @@ module _ (delta : ℕ) where
       unfolding fewestBytes
       few-4 h = (rw (le-ltb delta 256 a, le-ltb delta 65536 b, le-ltb delta 16777216 h), omega arith, omega arith)
 
--- of 1 to 4 bytes, 4 are left
-pub four-left : (k : ℕ) → 1 ≤ k → k ≤ 4 → (k ≡ 1 → ⊥) → (k ≡ 2 → ⊥) → (k ≡ 3 → ⊥) → k ≡ 4
-four-left zero a b d e f = absurd (omega arith)
-four-left (suc zero) a b d e f = absurd (d refl)
-four-left (suc (suc zero)) a b d e f = absurd (e refl)
-four-left (suc (suc (suc zero))) a b d e f = absurd (f refl)
-four-left (suc (suc (suc (suc k)))) a b d e f = omega arith
+-- a delta that takes so many bytes is small
+module _ (delta : ℕ) where
+  pub one-small : fewestBytes delta ≡ 1 → delta < 256
+  unfolding fewestBytes
+  one-small e =
+      elim (decLe 256 delta) [
+        | yes h ↦ on-test (ltb delta 65536)
+            (λ y. let q : 2 ≡ 1 = rw (le-ltb delta 256 h, y) at e in absurd (omega arith))
+            (λ y.
+            on-test (ltb delta 16777216)
+            (λ z. let q : 3 ≡ 1 = rw (le-ltb delta 256 h, y, z) at e in absurd (omega arith))
+            (λ z. let q : 4 ≡ 1 = rw (le-ltb delta 256 h, y, z) at e in absurd (omega arith)))
+        | no h ↦ omega arith
+      ]
+
+  pub two-small : fewestBytes delta ≡ 2 → delta < 65536
+  unfolding fewestBytes
+  two-small e =
+      elim (decLe 65536 delta) [
+        | yes h ↦ on-test (ltb delta 16777216)
+            (λ z. let q : 3 ≡ 2 = rw (le-ltb delta 256 (omega arith), le-ltb delta 65536 h, z) at e in absurd (omega arith))
+            (λ z. let q : 4 ≡ 2 = rw (le-ltb delta 256 (omega arith), le-ltb delta 65536 h, z) at e in absurd (omega arith))
+        | no h ↦ omega arith
+      ]
+
+  pub small-most : delta < 16777216 → fewestBytes delta ≤ 3
+  unfolding fewestBytes
+  small-most h =
+      on-test (ltb delta 256)
+      (λ x. rw x (omega arith))
+      (λ x. on-test (ltb delta 65536) (λ y. rw (x, y) (omega arith)) (λ y. rw (x, y, lt-ltb delta 16777216 h) (omega arith)))
+
+-- what brings it to the top
+pub scales-1 : (k : ℕ) → k ≡ 1 → Scales k 65536
+scales-1 k e = rw e Scales.one
+
+pub scales-2 : (k : ℕ) → k ≡ 2 → Scales k 256
+scales-2 k e = rw e Scales.two
+
+pub scales-3 : (k : ℕ) → 1 ≤ k → k ≤ 3 → (k ≡ 1 → ⊥) → (k ≡ 2 → ⊥) → Scales k 1
+scales-3 zero a b n m = absurd (omega arith)
+scales-3 (suc zero) a b n m = absurd (n refl)
+scales-3 (suc (suc zero)) a b n m = absurd (m refl)
+scales-3 (suc (suc (suc k))) a b n m = let e : suc (suc (suc k)) ≡ 3 = omega arith in rw e Scales.three
+
+-- then it has 3 bytes
+pub scaled-small : (delta k scale : ℕ) → delta < 16777216 → k ≡ fewestBytes delta → Scales k scale → delta * scale < 16777216
+scaled-small delta k scale h e Scales.one = let s = one-small delta (sym e) in omega arith
+scaled-small delta k scale h e Scales.two = let s = two-small delta (sym e) in omega arith
+scaled-small delta k scale h e Scales.three = omega arith
 
 -- ---- symbols
 

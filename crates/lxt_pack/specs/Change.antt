@@ -41,6 +41,18 @@ pub record Sizes (kind : Kind) (width : ℕ) (value : List ℕ) (r : ℕ) : Type
 unfoldable pub headOf : ℕ → ℕ → List ℕ
 headOf command delta = (16 * (fewestBytes delta - 1) + command) ∷ bigEndian (fewestBytes delta) delta
 
+-- 256 ^ (3 - k), for k of 1 to 3
+pub data Scales : ℕ → ℕ → Type 0 where
+  one : Scales 1 65536
+  two : Scales 2 256
+  three : Scales 3 1
+
+-- a command and a delta of at most 3 bytes, with room for 4
+pub record HeadAsked (command delta : ℕ) (out : List ℕ) (at : ℕ) : Type 0 where
+  pub command-small : command < 16
+  pub delta-small : delta < 16777216
+  pub room : at + 4 ≤ length out
+
 -- symbols that a command holds, with room for their bytes
 pub record Held (values : List ℕ) (start end command : ℕ) (out : List ℕ) (at : ℕ) : Type 0 where
   pub upto : start ≤ end
@@ -57,6 +69,8 @@ pub record Sound (kind : Kind) (values : List ℕ) (start end delta : ℕ) (out 
   pub wide : WidthFor kind width
   pub allowed : valueAllowed kind width (slice start end values) ≡ true
   pub room : at + length (changeBytes kind delta (slice start end values)) ≤ length out
+  pub spare : at + 4 ≤ length out
+  pub delta-small : delta < 16777216
 
 -- a change that was put from `at` up to r
 pub record Puts (kind : Kind) (value : List ℕ) (delta : ℕ) (out : List ℕ) (at : ℕ) (out′ : List ℕ) (r : ℕ) : Type 0 where

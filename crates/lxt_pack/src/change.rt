@@ -3,11 +3,12 @@ ghost use mathlib.Core.Path.{_≡_};
 ghost use Prim.Native.Nat.{_+_, _*_, _-_, _≤_, _<_};
 ghost use lib.ListN.{length};
 ghost use lib.Seq.{slice};
+ghost use Rattle.lxt_format.specs.Basics.{if_then_else_};
 ghost use Rattle.lxt_format.specs.Buffers.{placed};
 ghost use Rattle.lxt_format.specs.Changes.{symbolSize, packedSize};
 ghost use Rattle.lxt_format.specs.declared.Kind.the-variants.{Bits, Integer, Real, Text};
-ghost use Rattle.lxt_written.specs.WrittenChanges.{bigEndian, fewestBytes, packedSymbols};
-ghost use Rattle.lxt_pack.specs.Change.{Part, WidthFor, notAllowed, sizeFor, Sizes, headOf, Held, Sound, Puts};
+ghost use Rattle.lxt_written.specs.WrittenChanges.{fewestBytes, packedSymbols};
+ghost use Rattle.lxt_pack.specs.Change.{Part, WidthFor, notAllowed, sizeFor, Sizes, headOf, Scales, HeadAsked, Held, Sound, Puts};
 use crate::parts;
 use crate::put;
 use crate::symbols;
@@ -139,35 +140,42 @@ pub fn size_of(kind: Kind, width: u64, values: &[u8], start: usize, end: usize, 
 
 // ---- its bytes
 
-// A delta in k bytes.
-fn put_delta(out: &mut [u8], at: usize, k: usize, delta: u32)
-    requires { ⌜ (1 ≤ k) × (k ≤ 4) × (at + k ≤ length (now out)) ⌝ }
-    ensures { λ _. ⌜ now (out .exit) ≡ placed (now (out .entry)) at (bigEndian k delta) ⌝ }
+// One of two bytes.
+fn chosen(test: bool, a: u8, b: u8) -> u8
+    ensures { λ r. ⌜ r ≡ (if test then a else b) ⌝ }
 {
-    if k == 1 {
-        put::one(out, at, delta);
-        return;
-    }
-    if k == 2 {
-        put::two(out, at, delta);
-        return;
-    }
-    if k == 3 {
-        put::three(out, at, delta);
-        return;
-    }
-    put::four(out, at, delta);
+    if test { a } else { b }
 }
 
-// The command byte and the delta, and where the data goes.
+// What brings a delta of k bytes to the top of 3.
+fn scale_of(k: usize) -> u32
+    requires { ⌜ (1 ≤ k) × (k ≤ 3) ⌝ }
+    ensures { λ r. ⌜ Scales k r ⌝ }
+{
+    if k == 1 {
+        return 0x1_0000;
+    }
+    if k == 2 {
+        return 0x100;
+    }
+    1
+}
+
+// The command byte and the delta, and where the data goes. Bytes that the delta does not take are stored as they
+// were, so that nothing depends on how many it takes.
 fn put_head(command: u8, delta: u32, out: &mut [u8], at: usize) -> usize
-    requires { ⌜ (command < 16) × (at + (1 + fewestBytes delta) ≤ length (now out)) ⌝ }
+    requires { ⌜ HeadAsked command delta (now out) at ⌝ }
     ensures { λ _. ⌜ now (out .exit) ≡ placed (now (out .entry)) at (headOf command delta) ⌝ }
     ensures { λ r. ⌜ r ≡ at + (1 + fewestBytes delta) ⌝ }
 {
     let k = delta_size(delta);
-    put::one(out, at, (16 * (k - 1)) as u32 + command as u32);
-    put_delta(out, at + 1, k, delta);
+    let bytes = delta * scale_of(k);
+    let second = out[at + 2];
+    let third = out[at + 3];
+    out[at] = (16 * (k - 1)) as u8 + command;
+    out[at + 1] = (bytes / 0x1_0000) as u8;
+    out[at + 2] = chosen(1 < k, (bytes / 0x100 % 0x100) as u8, second);
+    out[at + 3] = chosen(2 < k, (bytes % 0x100) as u8, third);
     at + (1 + k)
 }
 

@@ -5,6 +5,7 @@ ghost use Prim.Native.Nat.{_+_, _-_, _≤_, _<_, _/_, _^_};
 ghost use lib.ListN.{length, getD};
 ghost use lib.Seq.{slice};
 ghost use lib.Dec.{ltb};
+ghost use Rattle.lxt_format.specs.Basics.{if_then_else_};
 ghost use Rattle.lxt_format.specs.Buffers.{placed};
 ghost use Rattle.lxt_format.specs.Changes.{packedSize};
 ghost use Rattle.lxt_written.specs.WrittenChanges.{codeOf, packedCodes, pack};
@@ -39,12 +40,21 @@ fn code_of_four(symbol: u8) -> u8
     (symbol as u32 * 107 / 64 % 4) as u8
 }
 
-// The code of any symbol: each has a place of its own among the 16 of a constant.
+// A code where a test holds, else 0.
+fn pick(test: bool, code: u8) -> u8
+    ensures { λ r. ⌜ (r ≡ (if test then code else 0)) × (r ≤ code) ⌝ }
+{
+    if test { code } else { 0 }
+}
+
+// The code of any symbol. A loop over it is made wide by the compiler.
 fn code_of(symbol: u8) -> u8
     ensures { λ r. ⌜ Coded symbol 9 r × (r < 16) ⌝ }
 {
-    let place = symbol as u32 * 9 / 4 % 16;
-    ((0x5100_7200_0380_6400_u64 >> (4 * place)) % 16) as u8
+    let of_four = pick(symbol == b'1', 1) + pick(symbol == b'Z', 2) + pick(symbol == b'X', 3);
+    let of_hu = pick(symbol == b'H', 4) + pick(symbol == b'U', 5);
+    let of_wl = pick(symbol == b'W', 6) + pick(symbol == b'L', 7);
+    of_four + of_hu + of_wl + pick(symbol == b'-', 8)
 }
 
 // ---- the command
@@ -169,20 +179,6 @@ fn two(values: &[u8], at: usize) -> u8
     code_of(values[at]) * 16 + code_of(values[at + 1])
 }
 
-// The byte of as many codes of b bits as fill it.
-fn whole(values: &[u8], at: usize, b: usize) -> u8
-    requires { ⌜ Holding (now values) b at (at + 8 / b) ⌝ }
-    ensures { λ r. ⌜ r ≡ packedCodes b (8 / b) (map codeOf (slice at (at + 8 / b) (now (values .entry)))) ⌝ }
-{
-    if b == 1 {
-        return eight(values, at);
-    }
-    if b == 2 {
-        return four(values, at);
-    }
-    two(values, at)
-}
-
 // How many codes there are of b bits.
 fn base_of(b: usize) -> u32
     requires { ⌜ Size b ⌝ }
@@ -224,20 +220,69 @@ fn rest(values: &[u8], at: usize, end: usize, b: usize) -> u8
     sum as u8
 }
 
+// Codes of 1 bit, 8 to a byte.
+fn pack_bits(values: &[u8], start: usize, end: usize, out: &mut [u8], at: usize)
+    requires { ⌜ Packing (now values) start end 1 (now out) at ⌝ }
+    ensures { λ _. ⌜ now (out .exit) ≡ placed (now (out .entry)) at (pack 1 (packedSize 1 (end - start)) (map codeOf (slice start end (now (values .entry))))) ⌝ }
+{
+    let count = (end - start) / 8;
+    let mut j: usize = 0;
+    while j < count {
+        out[at + j] = eight(values, start + 8 * j);
+        j += 1;
+    }
+    let p = start + 8 * count;
+    if p < end {
+        out[at + count] = rest(values, p, end, 1);
+    }
+}
+
+// Codes of 2 bits, 4 to a byte.
+fn pack_pairs(values: &[u8], start: usize, end: usize, out: &mut [u8], at: usize)
+    requires { ⌜ Packing (now values) start end 2 (now out) at ⌝ }
+    ensures { λ _. ⌜ now (out .exit) ≡ placed (now (out .entry)) at (pack 2 (packedSize 2 (end - start)) (map codeOf (slice start end (now (values .entry))))) ⌝ }
+{
+    let count = (end - start) / 4;
+    let mut j: usize = 0;
+    while j < count {
+        out[at + j] = four(values, start + 4 * j);
+        j += 1;
+    }
+    let p = start + 4 * count;
+    if p < end {
+        out[at + count] = rest(values, p, end, 2);
+    }
+}
+
+// Codes of 4 bits, 2 to a byte.
+fn pack_codes(values: &[u8], start: usize, end: usize, out: &mut [u8], at: usize)
+    requires { ⌜ Packing (now values) start end 4 (now out) at ⌝ }
+    ensures { λ _. ⌜ now (out .exit) ≡ placed (now (out .entry)) at (pack 4 (packedSize 4 (end - start)) (map codeOf (slice start end (now (values .entry))))) ⌝ }
+{
+    let count = (end - start) / 2;
+    let mut j: usize = 0;
+    while j < count {
+        out[at + j] = two(values, start + 2 * j);
+        j += 1;
+    }
+    let p = start + 2 * count;
+    if p < end {
+        out[at + count] = rest(values, p, end, 4);
+    }
+}
+
 // The codes from `start` up to `end`, b bits each, put at `at`.
 pub fn pack(values: &[u8], start: usize, end: usize, b: usize, out: &mut [u8], at: usize)
     requires { ⌜ Packing (now values) start end b (now out) at ⌝ }
     ensures { λ _. ⌜ now (out .exit) ≡ placed (now (out .entry)) at (pack b (packedSize b (end - start)) (map codeOf (slice start end (now (values .entry))))) ⌝ }
 {
-    let places = 8 / b;
-    let mut p = start;
-    let mut q = at;
-    while places <= end - p {
-        out[q] = whole(values, p, b);
-        p += places;
-        q += 1;
+    if b == 1 {
+        pack_bits(values, start, end, out, at);
+        return;
     }
-    if p < end {
-        out[q] = rest(values, p, end, b);
+    if b == 2 {
+        pack_pairs(values, start, end, out, at);
+        return;
     }
+    pack_codes(values, start, end, out, at);
 }
