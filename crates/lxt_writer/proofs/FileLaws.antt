@@ -2,32 +2,29 @@
 use Prim.Native.Nat.{ℕ, zero, suc, _+_, _*_, _-_, _≤_, _<_}
 use native.Mathlib.Omega.{arith}
 use native.Mathlib.Nat.{add-zero, zero-add}
-use mathlib.Core.Path.{_≡_, refl, sym, ap, _∙_}
+use mathlib.Core.Path.{_≡_, refl, ap, _∙_}
 use mathlib.Core.Bool.{Bool, true, false}
 use mathlib.Core.List.{List, [], _∷_, _++_, map, reverse, append-nil}
 use lib.ListN.{length, getD, drop, length-append, length-map}
 use lib.IntN.{ℤ}
-use Rattle.lxt_format.specs.Limits.{mostFacilities}
 use Rattle.lxt_format.specs.Basics.{if_then_else_, joined, range}
 use Rattle.lxt_format.specs.Buffers.{placed, length-placed, placed-more}
 use Rattle.lxt_format.specs.Columns.{onto}
-use Rattle.lxt_format.specs.Names.{memoryOf}
-use Rattle.lxt_format.specs.Reals.{testPattern}
 use Rattle.lxt_written.specs.Input.{Trace, facilityOf, changeOf, traceOf}
-use Rattle.lxt_written.specs.WrittenChanges.{bigEndian, lastOf, pairOf, laid, changesBytes}
-use Rattle.lxt_written.specs.WrittenFile.{header, words, deltasFrom, namesFrom, namesOf, geometryBytes, geometryBody, syncBody, entriesOf, firstTimeOf, lastTimeOf, fileOf}
-use Rattle.lxt_written.specs.Writing.{inputAllowed}
+use Rattle.lxt_written.specs.WrittenChanges.{bigEndian, lastOf, Laid, pairOf, laid, changesBytes}
+use Rattle.lxt_written.specs.WrittenFile.{header, words, deltasFrom, namesFrom, namesOf, geometryBytes, geometryBody, syncBody}
+use Rattle.lxt_written.specs.WrittenFile.{entriesOf, firstTimeOf, lastTimeOf, fileOf}
 use Rattle.lxt_written.specs.Stands.{Stands, stands-front, stands-back}
 use Rattle.lxt_written.specs.TableSizes.{length-rows, length-words, length-geometry}
 use Rattle.lxt_written.specs.WrittenLaws.{length-deltas}
 use Rattle.lxt_pack.proofs.PutLaws.{Filling, fill-begun, fill-turn, fill-ended}
 use Rattle.lxt_layout.specs.declared.Sizes.{Sizes}
 use Rattle.lxt_layout.specs.declared.Places.{Places}
-use Rattle.lxt_layout.specs.Layout.{Bounded, PlacesFor, Below, valuesSection, tailOf, Measures, Parts}
+use Rattle.lxt_layout.specs.Layout.{PlacesFor, Below, valuesSection, tailOf, Parts}
 use Rattle.lxt_layout.proofs.PlacedLaws.{placed-stands, placed-below, placed-above, placed-tail}
 use Rattle.lxt_layout.proofs.WholeLaws.{tail-long, tail-asks, file-onto}
 use Rattle.lxt_facilities.specs.Rows.{namesIn}
-use Rattle.lxt_writer.specs.Changes.{layRows, endFrom, Fresh, positionsOf, timesOf, PutAsked, ChangesPut}
+use Rattle.lxt_writer.specs.Changes.{layRows, Fresh, PutAsked, ChangesPut}
 use Rattle.lxt_writer.specs.Plan.{firstOf, finalOf, tablesBytes, TablesAsked, endBytes, EndAsked, FileAsked}
 use Rattle.lxt_writer.proofs.PlanLaws.{widths-of, laid-rows, changes-end, allowed-count, allowed-facilities, allowed-sound}
 
@@ -46,10 +43,12 @@ module _ (rows : List (List ℕ)) (names last out : List ℕ) (p : Places) (a : 
   abbrev times-head : List ℕ
   times-head = words (entries ∷ first ∷ final ∷ [])
 
+  -- 16 bytes a facility
   geometry-size : length geometry ≡ 16 * length rows
   geometry-size = length-rows 16 geometryBytes length-geometry (map (facilityOf []) rows) ∙ ap (λ k. 16 * k) (length-map rows (facilityOf []))
 
-  pub tables-long : p .names + length (tablesBytes rows names memory last entries first final) ≡ p .times + 12
+  -- they end where the positions of the time table start
+  tables-long : p .names + length (tablesBytes rows names memory last entries first final) ≡ p .times + 12
   unfolding tablesBytes
   tables-long =
       let h = length-words (length rows ∷ memory ∷ []) in
@@ -62,6 +61,7 @@ module _ (rows : List (List ℕ)) (names last out : List ℕ) (p : Places) (a : 
       let e₄ = length-append (words last) times-head in
       omega (arith, a .geometry, a .sync, a .times)
 
+  -- one put after the other they are all
   pub tables-put : (one two three four five : List ℕ) → one ≡ placed out (p .names) names-head → two ≡ placed one (p .names + 8) all-names
       → three ≡ placed two (p .geometry) geometry → four ≡ placed three (p .sync) (words last) → five ≡ placed four (p .times) times-head
       → five ≡ placed out (p .names) (tablesBytes rows names memory last entries first final)
@@ -73,28 +73,35 @@ module _ (rows : List (List ℕ)) (names last out : List ℕ) (p : Places) (a : 
       let s = length-words last in
       let t = length-words (entries ∷ first ∷ final ∷ []) in
       let room : p .names + length text ≤ length out = omega (arith, tables-long, a .room) in
-      let f₀ : Filling out (p .names) text (names-head ++ (all-names ++ (geometry ++ (words last ++ times-head)))) out (p .names) = fill-begun out (p .names) text room in
-      let f₁ = fill-turn out (p .names) text names-head (all-names ++ (geometry ++ (words last ++ times-head))) out (p .names) f₀ one e₁ (p .names + 8) (omega arith) in
-      let f₂ = fill-turn out (p .names) text all-names (geometry ++ (words last ++ times-head)) one (p .names + 8) f₁ two e₂ (p .geometry) (a .geometry) in
-      let f₃ = fill-turn out (p .names) text geometry (words last ++ times-head) two (p .geometry) f₂ three e₃ (p .sync) (omega (arith, a .sync)) in
+      let after-geometry : List ℕ = words last ++ times-head in
+      let after-names : List ℕ = geometry ++ after-geometry in
+      let after-head : List ℕ = all-names ++ after-names in
+      let f₀ : Filling out (p .names) text (names-head ++ after-head) out (p .names) = fill-begun out (p .names) text room in
+      let f₁ = fill-turn out (p .names) text names-head after-head out (p .names) f₀ one e₁ (p .names + 8) (omega arith) in
+      let f₂ = fill-turn out (p .names) text all-names after-names one (p .names + 8) f₁ two e₂ (p .geometry) (a .geometry) in
+      let f₃ = fill-turn out (p .names) text geometry after-geometry two (p .geometry) f₂ three e₃ (p .sync) (omega (arith, a .sync)) in
       let f₄ = fill-turn out (p .names) text (words last) times-head three (p .sync) f₃ four e₄ (p .times) (omega (arith, a .times)) in
       let f₅ : Filling out (p .names) text (times-head ++ []) four (p .times) = rw append-nil f₄ in
-      fill-ended out (p .names) text five (p .times + 12) (fill-turn out (p .names) text times-head [] four (p .times) f₅ five e₅ (p .times + 12) (omega arith))
+      let f₆ = fill-turn out (p .names) text times-head [] four (p .times) f₅ five e₅ (p .times + 12) (omega arith) in
+      fill-ended out (p .names) text five (p .times + 12) f₆
 
 -- ---- the sections of one value, END and the section list
 
+-- how long the sections of one value are
 values-long : (timescale : ℤ) (initial : ℕ) (real : Bool) → length (valuesSection timescale initial real) ≡ 2 + (if real then 8 else 0)
 unfolding valuesSection
 values-long timescale initial true = refl
 values-long timescale initial false = refl
 
 module _ (real : Bool) (out : List ℕ) (p : Places) (a : EndAsked real out p) where
+  -- END follows them
   end-place : p .end ≡ p .timescale + 2 + (if real then 8 else 0)
   end-place = rw (a .real-is) at (a .places .end)
 
   tail-room : (p .end + (if real then 42 else 37) ≤ length out) × (p .length < 4294967296) × Below p
   tail-room = rw (a .real-is) at (tail-asks (a .sizes) p out (a .bounded) (a .places) (a .room))
 
+  -- there is room for them
   pub values-asked : p .timescale + 2 + (if real then 8 else 0) ≤ length out
   values-asked = let e = end-place in omega (arith, tail-room .0)
 
@@ -107,6 +114,7 @@ module _ (real : Bool) (out : List ℕ) (p : Places) (a : EndAsked real out p) w
     pub tail-asked : (p .end + (if real then 42 else 37) ≤ length one) × (p .length < 4294967296) × Below p
     tail-asked = rw values-kept tail-room
 
+    -- one put after the other
     pub end-put : (two : List ℕ) → two ≡ placed one (p .end) (tailOf p real) → two ≡ placed out (p .timescale) (endBytes timescale initial real p)
     unfolding endBytes
     end-put two d =
@@ -119,7 +127,9 @@ module _ (real : Bool) (out : List ℕ) (p : Places) (a : EndAsked real out p) w
 
 -- ---- the tables of the trace
 
-sync-rows : (g : ℕ → ℕ) (l : List ℕ) (i : ℕ) → ((f : ℕ) → f < length l → getD l f 0 ≡ g (i + f)) → words l ≡ joined (λ f. bigEndian 4 (g f)) (range i (length l))
+-- a table that has g of each number from i on, as words
+sync-rows : (g : ℕ → ℕ) (l : List ℕ) (i : ℕ) → ((f : ℕ) → f < length l → getD l f 0 ≡ g (i + f))
+    → words l ≡ joined (λ f. bigEndian 4 (g f)) (range i (length l))
 unfolding joined range
 sync-rows g [] i h = refl
 sync-rows g (x ∷ l) i h =
@@ -127,11 +137,13 @@ sync-rows g (x ∷ l) i h =
     let rest = sync-rows g l (suc i) (λ f k. h (suc f) (omega arith) ∙ ap g (omega arith)) in
     rw (first, rest)
 
+-- names do not matter for the geometry
 geometry-same : (names : List ℕ) (rows : List (List ℕ)) → joined geometryBytes (map (facilityOf []) rows) ≡ joined geometryBytes (map (facilityOf names) rows)
 unfolding joined geometryBytes facilityOf
 geometry-same names [] = refl
 geometry-same names (row ∷ rows) = rw (geometry-same names rows)
 
+-- the time of change i, by its row
 time-at : (values : List ℕ) (changes : List (List ℕ)) (i : ℕ) → getD (map (λ c. c .time) (map (changeOf values) changes)) i 0 ≡ getD (getD changes i []) 1 0
 unfolding changeOf
 time-at values [] i = refl
@@ -151,11 +163,12 @@ final-none (row ∷ changes) e = absurd (omega arith)
 
 -- ---- the whole file
 
-module _ (facilities : List (List ℕ)) (names : List ℕ) (changes : List (List ℕ)) (values : List ℕ) (initial : ℕ) (timescale : ℤ) (z : Sizes) (memory : ℕ)
-    (out : List ℕ) (a : FileAsked facilities names changes values initial timescale z memory out) (p : Places) (pf : PlacesFor z p) where
+module _ (facilities : List (List ℕ)) (names : List ℕ) (changes : List (List ℕ)) (values : List ℕ) (initial : ℕ) (timescale : ℤ)
+    (z : Sizes) (memory : ℕ) (out : List ℕ) (a : FileAsked facilities names changes values initial timescale z memory out) (p : Places) (pf : PlacesFor z p) where
   abbrev trace : Trace
   trace = traceOf facilities names changes values initial timescale
 
+  -- the sizes by the rows
   count-is : z .facilities ≡ length facilities
   count-is = a .sizes .facilities ∙ length-map facilities (facilityOf names)
 
@@ -195,7 +208,8 @@ module _ (facilities : List (List ℕ)) (names : List ℕ) (changes : List (List
   end-asked : (three : List ℕ) → length three ≡ length out → EndAsked (z .real) three p
   end-asked three k = record { sizes = z; real-is = refl; bounded = a .bounded; places = pf; room = omega (arith, a .room p pf) }
 
-  module _ (last one two : List ℕ) (put : ChangesPut facilities changes values out (p .times + 12) (4 * z .entries) last one) (second : two ≡ placed one 0 header) where
+  module _ (last one two : List ℕ) (put : ChangesPut facilities changes values out (p .times + 12) (4 * z .entries) last one)
+      (second : two ≡ placed one 0 header) where
     abbrev tables : List ℕ
     tables = tablesBytes facilities names memory last (z .entries) (firstOf changes) (finalOf changes)
 
@@ -204,10 +218,18 @@ module _ (facilities : List (List ℕ)) (names : List ℕ) (changes : List (List
     names-place = pf .names ∙ a .sizes .changes
 
     two-long : length two ≡ length out
-    two-long = let room = a .room p pf in let n = names-place in rw second (length-placed one 0 header (omega (arith, put .long, pf .geometry, pf .sync, pf .times, pf .timescale, pf .end, pf .length)) ∙ put .long)
+    two-long =
+        let room = a .room p pf in
+        let n = names-place in
+        let fits : 0 + length header ≤ length one =
+        omega (arith, put .long, pf .geometry, pf .sync, pf .times, pf .timescale, pf .end, pf .length) in
+        rw second (length-placed one 0 header fits ∙ put .long)
 
+    -- the tables end where the positions start
     tables-end : p .names + length tables ≡ p .times + 12
-    tables-end = tables-long facilities names last two p (tables-asked last two (put .table-long) two-long) memory (z .entries) (firstOf changes) (finalOf changes)
+    tables-end =
+        let asked = tables-asked last two (put .table-long) two-long in
+        tables-long facilities names last two p asked memory (z .entries) (firstOf changes) (finalOf changes)
 
     tables-room : p .names + length tables ≤ length two
     tables-room = let room = a .room p pf in let l = two-long in let e = tables-end in omega (arith, pf .timescale, pf .end, pf .length)
@@ -218,7 +240,8 @@ module _ (facilities : List (List ℕ)) (names : List ℕ) (changes : List (List
     pub tables-ready : TablesAsked facilities names last two p
     tables-ready = tables-asked last two (put .table-long) two-long
 
-    module _ (three : List ℕ) (third : three ≡ placed two (p .names) (tablesBytes facilities names memory last (z .entries) (firstOf changes) (finalOf changes))) where
+    module _ (three : List ℕ)
+        (third : three ≡ placed two (p .names) (tablesBytes facilities names memory last (z .entries) (firstOf changes) (finalOf changes))) where
       three-long : length three ≡ length out
       three-long = rw third (length-placed two (p .names) tables tables-room ∙ two-long)
 
@@ -228,6 +251,7 @@ module _ (facilities : List (List ℕ)) (names : List ℕ) (changes : List (List
       abbrev ending : List ℕ
       ending = endBytes timescale initial (z .real) p
 
+      -- it ends where the file does
       ending-end : p .timescale + length ending ≡ p .length
       unfolding endBytes
       ending-end =
@@ -255,9 +279,12 @@ module _ (facilities : List (List ℕ)) (names : List ℕ) (changes : List (List
             rw fourth
             (placed-below three (p .timescale) ending ending-room o x
             (rw third
-            (placed-above two (p .names) tables o x (rw second (placed-above one 0 header o x s (omega (arith, pf .geometry, pf .sync, pf .times)))) (omega arith)))
+            (placed-above two (p .names) tables o x
+            (rw second (placed-above one 0 header o x s (omega (arith, pf .geometry, pf .sync, pf .times))))
+            (omega arith)))
             upto)
 
+        -- the parts that were put last, and what is not put over them
         header-stands : Stands four 0 header
         header-stands =
             let n = names-place in
@@ -270,27 +297,34 @@ module _ (facilities : List (List ℕ)) (names : List ℕ) (changes : List (List
         tables-stand =
             let e = tables-end in
             rw fourth
-            (placed-below three (p .timescale) ending ending-room (p .names) tables (rw third (placed-stands two (p .names) tables tables-room)) (omega (arith, pf .timescale)))
+            (placed-below three (p .timescale) ending ending-room (p .names) tables
+            (rw third (placed-stands two (p .names) tables tables-room))
+            (omega (arith, pf .timescale)))
 
         ending-stands : Stands four (p .timescale) ending
         ending-stands = rw fourth (placed-stands three (p .timescale) ending ending-room)
 
+        -- what follows the file stays
         rest-kept : drop (p .length) four ≡ drop (p .length) out
         rest-kept =
             let e = ending-end in
             let t = tables-end in
             let n = names-place in
-            let d₄ : drop (p .length) four ≡ drop (p .length) three = rw fourth (placed-tail three (p .timescale) ending ending-room (p .length) (omega arith)) in
+            let d₄ : drop (p .length) four ≡ drop (p .length) three =
+            rw fourth (placed-tail three (p .timescale) ending ending-room (p .length) (omega arith)) in
             let d₃ : drop (p .length) three ≡ drop (p .length) two =
             rw third (placed-tail two (p .names) tables tables-room (p .length) (omega (arith, pf .timescale, pf .end, pf .length))) in
             let d₂ : drop (p .length) two ≡ drop (p .length) one =
-            rw second (placed-tail one 0 header header-room (p .length) (omega (arith, pf .geometry, pf .sync, pf .times, pf .timescale, pf .end, pf .length))) in
+            rw second
+            (placed-tail one 0 header header-room (p .length)
+            (omega (arith, pf .geometry, pf .sync, pf .times, pf .timescale, pf .end, pf .length))) in
             d₄ ∙ d₃ ∙ d₂ ∙ put .tail (p .length) (omega (arith, pf .timescale, pf .end, pf .length))
 
         -- bytes stand behind those before them
         behind : (o q : ℕ) (xs ys : List ℕ) → Stands four o (xs ++ ys) → q ≡ o + length xs → Stands four q ys
         behind o q xs ys h e = rw e (stands-back four o xs ys h)
 
+        -- each part of the file stands at its place
         parts : Parts trace z p four
         unfolding tablesBytes endBytes namesOf geometryBody syncBody changesBytes firstTimeOf lastTimeOf firstOf finalOf
         parts =
@@ -304,29 +338,33 @@ module _ (facilities : List (List ℕ)) (names : List ℕ) (changes : List (List
             let lg = geometry-size facilities names last two p asked memory (z .entries) (firstOf changes) (finalOf changes) in
             let ls = length-words last in
             let t : List ℕ = words (z .entries ∷ firstOf changes ∷ finalOf changes ∷ []) in
-            let s₁ : Stands four (p .names + 8) (ns ++ (g ++ (words last ++ t))) = behind (p .names) (p .names + 8) h (ns ++ (g ++ (words last ++ t))) tables-stand (omega arith) in
-            let s₂ : Stands four (p .geometry) (g ++ (words last ++ t)) = behind (p .names + 8) (p .geometry) ns (g ++ (words last ++ t)) s₁ (asked .geometry) in
+            let after-names : List ℕ = g ++ (words last ++ t) in
+            let s₁ : Stands four (p .names + 8) (ns ++ after-names) =
+            behind (p .names) (p .names + 8) h (ns ++ after-names) tables-stand (omega arith) in
+            let s₂ : Stands four (p .geometry) after-names = behind (p .names + 8) (p .geometry) ns after-names s₁ (asked .geometry) in
             let s₃ : Stands four (p .sync) (words last ++ t) = behind (p .geometry) (p .sync) g (words last ++ t) s₂ (omega (arith, pf .sync)) in
             let s₄ : Stands four (p .times) t = behind (p .sync) (p .times) (words last) t s₃ (omega (arith, pf .times)) in
             let place : p .names ≡ 4 + length (joined (λ x. x .bytes) (layRows facilities values 4 [] changes)) = rw (← rows-laid) names-place in
-            let newest : words last ≡ joined (λ f. bigEndian 4 (lastOf f (reverse (map pairOf (laid trace))))) (range 0 (length (map (facilityOf names) facilities))) =
+            let newest-of : ℕ → ℕ = λ f. lastOf f (reverse (map pairOf (laid trace))) in
+            let newest : words last ≡ joined (λ f. bigEndian 4 (newest-of f)) (range 0 (length (map (facilityOf names) facilities))) =
             rw (length-map facilities (facilityOf names), ← l)
-            (sync-rows (λ f. lastOf f (reverse (map pairOf (laid trace)))) last 0
-            (λ f k. rw (zero-add f, rows-laid) (put .newest f (omega arith)))) in
+            (sync-rows newest-of last 0 (λ f k. rw (zero-add f, rows-laid) (put .newest f (omega arith)))) in
             let v : List ℕ = valuesSection timescale initial (z .real) in
             let lv = values-long timescale initial (z .real) in
             let columns = a .sizes .entries ∙ ap (λ x. length (entriesOf x)) rows-laid in
-            let lp = length-words (deltasFrom 0 (map (λ x. x .offset) (entriesOf (layRows facilities values 4 [] changes)))) in
-            let lq = length-words (deltasFrom 0 (map (λ x. x .time) (entriesOf (layRows facilities values 4 [] changes)))) in
-            let dp = length-deltas 0 (map (λ x. x .offset) (entriesOf (layRows facilities values 4 [] changes))) in
-            let dq = length-deltas 0 (map (λ x. x .time) (entriesOf (layRows facilities values 4 [] changes))) in
-            let mp = length-map (entriesOf (layRows facilities values 4 [] changes)) (λ x. x .offset) in
-            let mq = length-map (entriesOf (layRows facilities values 4 [] changes)) (λ x. x .time) in
+            let entries : List Laid = entriesOf (layRows facilities values 4 [] changes) in
+            let lp = length-words (deltasFrom 0 (map (λ x. x .offset) entries)) in
+            let lq = length-words (deltasFrom 0 (map (λ x. x .time) entries)) in
+            let dp = length-deltas 0 (map (λ x. x .offset) entries) in
+            let dq = length-deltas 0 (map (λ x. x .time) entries) in
+            let mp = length-map entries (λ x. x .offset) in
+            let mq = length-map entries (λ x. x .time) in
             record {
               header = header-stands;
               changes = rw rows-laid (keeps 4 _ (put .bytes) (omega arith) (omega arith));
-              names-head = rw (length-map facilities (facilityOf names), ← a .memory-is) (stands-front four (p .names) h (ns ++ (g ++ (words last ++ t))) tables-stand);
-              names = stands-front four (p .names + 8) ns (g ++ (words last ++ t)) s₁;
+              names-head =
+                  rw (length-map facilities (facilityOf names), ← a .memory-is) (stands-front four (p .names) h (ns ++ after-names) tables-stand);
+              names = stands-front four (p .names + 8) ns after-names s₁;
               geometry = rw (← geometry-same names facilities) (stands-front four (p .geometry) g (words last ++ t) s₂);
               sync = rw (← newest) (stands-front four (p .sync) (words last) t s₃);
               times-head =

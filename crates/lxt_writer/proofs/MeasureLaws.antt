@@ -1,24 +1,25 @@
 -- Laws of the first pass over the changes.
-use Prim.Native.Nat.{ℕ, zero, suc, _+_, _*_, _-_, _≤_, _<_}
+use Prim.Native.Nat.{ℕ, suc, _+_, _-_, _≤_, _<_}
 use native.Mathlib.Omega.{arith}
 use native.Mathlib.Nat.{add-zero, zero-add, add-assoc}
 use mathlib.Core.Path.{_≡_, refl, sym, ap, _∙_}
-use mathlib.Core.Bool.{Bool, true, false, not, _&&_, _||_}
-use mathlib.Core.List.{List, [], _∷_, _++_, map}
+use mathlib.Core.Bool.{Bool, true, false, not, _&&_, true≢false, and-false}
+use mathlib.Core.List.{List, [], _∷_, map}
 use lib.ListN.{length, getD, drop, set, length-append}
 use lib.Seq.{drop-cons, drop-length}
-use lib.Dec.{leb, ltb, eqb}
-use borrow.Author.Tests.{le-leb, lt-leb, eq-eqb, ne-eqb, eqb-true, eqb-false}
+use lib.Dec.{leb, eqb}
+use borrow.Author.Tests.{le-leb, lt-leb, ne-eqb, eqb-true, not-true, not-false}
 use Rattle.lxt_format.specs.Limits.{longestFile}
 use Rattle.lxt_format.specs.Basics.{if_then_else_, all, joined}
-use Rattle.lxt_format.specs.BasicsLaws.{on-test}
+use Rattle.lxt_format.specs.BasicsLaws.{on-test, or-none}
 use Rattle.lxt_format.specs.declared.Pair.{Pair}
 use Rattle.lxt_written.specs.Input.{changeOf, changeRowAllowed}
 use Rattle.lxt_written.specs.WrittenChanges.{lastOf, Laid, pairOf, layAt, layFrom}
 use Rattle.lxt_written.specs.WrittenFile.{newTimesAfter, entriesOf}
 use Rattle.lxt_written.specs.Writing.{valueOfAllowed, changesAllowed}
 use Rattle.lxt_writer.specs.declared.changes.Measured.{Measured}
-use Rattle.lxt_writer.specs.Changes.{nameless, layRows, endFrom, soundFrom, Free, Laying, Fresh, rowAllowed, rowBytes, RowSized, isNew, entriesLeft, ChangesMeasured, Measuring}
+use Rattle.lxt_writer.specs.Changes.{nameless, layRows, endFrom, soundFrom, Fresh, rowAllowed, rowBytes, RowSized, isNew, entriesLeft}
+use Rattle.lxt_writer.specs.Changes.{ChangesMeasured, Measuring}
 use Rattle.lxt_writer.proofs.RowLaws.{row-known, row-laid, row-long, row-newest}
 
 -- ---- rows one after the other
@@ -43,7 +44,7 @@ module _ (rows : List (List ℕ)) (values : List ℕ) (o : ℕ) (before : List P
   unfolding layFrom
   lay-next = refl
 
-  pub end-next : endFrom rows values o before (row ∷ rest)
+  end-next : endFrom rows values o before (row ∷ rest)
       ≡ endFrom rows values (o + length (laidAt rows values o before row .bytes)) (pairOf (laidAt rows values o before row) ∷ before) rest
   unfolding layFrom joined
   end-next =
@@ -57,7 +58,8 @@ module _ (rows : List (List ℕ)) (values : List ℕ) (o : ℕ) (before : List P
       && soundFrom rows values (o + length (laidAt rows values o before row .bytes)) (pairOf (laidAt rows values o before row) ∷ before) (getD row 1 0) rest)
   unfolding soundFrom rowAllowed changesAllowed all changeOf
   sound-next time =
-      ap (λ e. all (changeRowAllowed values) (row ∷ rest) && (changesAllowed (nameless rows) time (map (changeOf values) (row ∷ rest)) && leb e longestFile)) end-next
+      let all-allowed : Bool = changesAllowed (nameless rows) time (map (changeOf values) (row ∷ rest)) in
+      ap (λ e. all (changeRowAllowed values) (row ∷ rest) && (all-allowed && leb e longestFile)) end-next
       ∙ apart
       (changeRowAllowed values row)
       (all (changeRowAllowed values) rest)
@@ -79,47 +81,27 @@ module _ (rows : List (List ℕ)) (values : List ℕ) (o : ℕ) (before : List P
 -- ---- entries
 
 module _ (o time : ℕ) (l : Laid) (ls : List Laid) where
-  -- a change at o, and those after it, which lie above 4
+  -- a change at o that gets an entry, and the entries of those after it, which lie above 4
   pub entry-new : isNew o time (l .time) ≡ true → (p : ℕ) → 4 < p → entriesLeft o time (l ∷ ls) ≡ l ∷ entriesLeft p (l .time) ls
   unfolding isNew entriesLeft entriesOf newTimesAfter
   entry-new h p above =
       let q : eqb p 4 ≡ false = ne-eqb p 4 (λ e. omega arith) in
       on-test (eqb o 4)
       (λ y. rw (y, q))
-      (λ y.
-      let n : eqb (l .time) time ≡ false = on-test (eqb (l .time) time) (λ z. absurd (wrong (eqb o 4) (eqb (l .time) time) y z h)) (λ z. z) in
-      rw (y, q, n))
-    where
-      wrong : (a b : Bool) → a ≡ false → b ≡ true → (a || not b) ≡ true → ⊥
-      wrong true b e f g = let z : _≡_ {A = Bool} true false = e in bad z
-        where
-          bad : _≡_ {A = Bool} true false → ⊥
-          bad z = let k : _≡_ {A = ℕ} 0 1 = cc in omega arith
-      wrong false true e f g = let k : _≡_ {A = ℕ} 0 1 = cc in omega arith
-      wrong false false e f g = let k : _≡_ {A = ℕ} 0 1 = cc in omega arith
+      (λ y. let n : eqb (l .time) time ≡ false = not-true _ (rw y at h) in rw (y, q, n))
 
+  -- one that gets none
   pub entry-old : isNew o time (l .time) ≡ false → (p : ℕ) → 4 < p → entriesLeft o time (l ∷ ls) ≡ entriesLeft p (l .time) ls
   unfolding isNew entriesLeft newTimesAfter
   entry-old h p above =
       let q : eqb p 4 ≡ false = ne-eqb p 4 (λ e. omega arith) in
-      on-test (eqb o 4)
-      (λ y. absurd (first (eqb o 4) (eqb (l .time) time) y h))
-      (λ y.
-      let n : eqb (l .time) time ≡ true = on-test (eqb (l .time) time) (λ z. z) (λ z. absurd (later (eqb o 4) (eqb (l .time) time) z h)) in
+      let neither = or-none (eqb o 4) (not (eqb (l .time) time)) h in
+      let n : eqb (l .time) time ≡ true = not-false _ (neither .1) in
       let e : l .time ≡ time = eqb-true (l .time) time n in
-      rw (y, q, n, e))
-    where
-      first : (a b : Bool) → a ≡ true → (a || not b) ≡ false → ⊥
-      first true b e g = let k : _≡_ {A = ℕ} 0 1 = cc in omega arith
-      first false b e g = let k : _≡_ {A = ℕ} 0 1 = cc in omega arith
-
-      later : (a b : Bool) → b ≡ false → (a || not b) ≡ false → ⊥
-      later true b e g = let k : _≡_ {A = ℕ} 0 1 = cc in omega arith
-      later false true e g = let k : _≡_ {A = ℕ} 0 1 = cc in omega arith
-      later false false e g = let k : _≡_ {A = ℕ} 0 1 = cc in omega arith
+      rw (neither .0, q, n, e)
 
   -- how many there are
-  pub entry-counted : (p k : ℕ) → 4 < p → k ≡ (if isNew o time (l .time) then 1 else 0)
+  entry-counted : (p k : ℕ) → 4 < p → k ≡ (if isNew o time (l .time) then 1 else 0)
       → length (entriesLeft o time (l ∷ ls)) ≡ k + length (entriesLeft p (l .time) ls)
   entry-counted p k above e =
       on-test (isNew o time (l .time))
@@ -134,6 +116,7 @@ entries-none o time = on-test (eqb o 4) (λ y. rw y) (λ y. rw y)
 -- ---- the pass
 
 module _ (rows changes : List (List ℕ)) (values : List ℕ) where
+  -- no change is laid yet
   pub measure-begun : (last : List ℕ) → Fresh last (length rows) → Measuring rows changes values 0 4 0 0 last
   unfolding lastOf entriesLeft
   measure-begun last fresh =
@@ -157,7 +140,7 @@ module _ (rows changes : List (List ℕ)) (values : List ℕ) where
     pub table-known : (row : List ℕ) (f r : ℕ) → f ≡ getD row 0 0 → RowSized rows row values last o r → r ≤ longestFile - o → f < length last
     table-known row f r e sized short =
         let allowed : rowAllowed rows row values ≡ true = sized .allowed (omega arith) in
-        let known = row-known rows row values last (m .before) o (m .laying) allowed in
+        let known = row-known rows row values allowed in
         omega (arith, m .laying .free .long)
 
     -- the row that comes next
@@ -168,6 +151,7 @@ module _ (rows changes : List (List ℕ)) (values : List ℕ) where
       step : Laid
       step = laidAt rows values o (m .before) next
 
+      -- all is allowed where it is, and those after it are
       sound-here : soundFrom rows values 4 [] 0 changes
           ≡ ((leb time (getD next 1 0) && rowAllowed rows next values)
           && soundFrom rows values (o + length (step .bytes)) (pairOf step ∷ m .before) (getD next 1 0) (drop (i + 1) changes))
@@ -188,18 +172,8 @@ module _ (rows changes : List (List ℕ)) (values : List ℕ) where
           let size : r ≡ length (rowBytes rows next values last o) = sized .size y in
           let bytes = ap length (row-laid rows next values last (m .before) o (m .laying) y) in
           let past : longestFile < endFrom rows values (o + length (step .bytes)) (pairOf step ∷ m .before) (drop (i + 1) changes) = omega arith in
-          sym (sound-here ∙ rw (lt-leb _ _ past) (none (leb time (getD next 1 0) && rowAllowed rows next values) (all (changeRowAllowed values) (drop (i + 1) changes)) (changesAllowed (nameless rows) (getD next 1 0) (map (changeOf values) (drop (i + 1) changes))))))
-          (λ y. sym (sound-here ∙ rw y (neither (leb time (getD next 1 0)) _)))
-        where
-          none : (a b c : Bool) → (a && (b && (c && false))) ≡ false
-          none true true true = refl
-          none true true false = refl
-          none true false c = refl
-          none false b c = refl
-
-          neither : (a b : Bool) → ((a && false) && b) ≡ false
-          neither true b = refl
-          neither false b = refl
+          sym (sound-here ∙ rw (lt-leb _ _ past, and-false, and-false, and-false)))
+          (λ y. sym (sound-here ∙ rw (y, and-false)))
 
       -- it is laid
       pub measure-turn : time ≤ getD (getD changes i []) 1 0 → (r k : ℕ) → RowSized rows (getD changes i []) values last o r → o + r ≤ longestFile
@@ -247,7 +221,7 @@ module _ (rows changes : List (List ℕ)) (values : List ℕ) where
   -- something is not allowed
   pub measure-refused : (r : Measured) → false ≡ soundFrom rows values 4 [] 0 changes → r .sound ≡ false → ChangesMeasured rows changes values r
   measure-refused r e n =
-      let no : r .sound ≡ true → ⊥ = λ y. let q : _≡_ {A = Bool} true false = sym y ∙ n in let k : _≡_ {A = ℕ} 0 1 = cc in omega arith in
+      let no : r .sound ≡ true → ⊥ = λ y. true≢false (sym y ∙ n) in
       record {
         sound = n ∙ e;
         end = λ y. absurd (no y);

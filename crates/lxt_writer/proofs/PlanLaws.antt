@@ -1,29 +1,28 @@
 -- Laws of the whole input: when it is allowed, and the sizes of its file.
-use Prim.Native.Nat.{ℕ, zero, suc, _+_, _*_, _-_, _≤_, _<_}
+use Prim.Native.Nat.{ℕ, zero, suc, _+_, _≤_}
 use native.Mathlib.Omega.{arith}
 use mathlib.Core.Path.{_≡_, refl, sym, ap, _∙_}
-use mathlib.Core.Bool.{Bool, true, false, not, _&&_, true≢false}
+use mathlib.Core.Bool.{Bool, true, false, not, _&&_, true≢false, and-false}
 use mathlib.Core.List.{List, [], _∷_, _++_, map}
-use lib.ListN.{length, getD, take, replicate, length-append, length-map, length-replicate, List·getD-eq-default}
+use lib.ListN.{length, getD, take, replicate, length-append, length-map, length-replicate}
 use lib.Seq.{length-take-le}
 use lib.IntN.{ℤ}
-use lib.Dec.{leb, ltb}
-use borrow.Author.Tests.{leb-true, le-leb}
-use Rattle.lxt_format.specs.Limits.{longestFile, mostFacilities, widestFacility}
-use Rattle.lxt_format.specs.Basics.{all, any, joined}
+use lib.Dec.{leb}
+use borrow.Author.Tests.{leb-true, le-leb, not-true, not-false}
+use Rattle.lxt_format.specs.Limits.{longestFile, mostFacilities}
+use Rattle.lxt_format.specs.Basics.{all, joined}
 use Rattle.lxt_format.specs.BasicsLaws.{on-test, and-both, both-and}
-use Rattle.lxt_format.specs.Names.{memoryOf}
 use Rattle.lxt_format.specs.Sections.{timescaleAllowed}
 use Rattle.lxt_format.specs.declared.Pair.{Pair}
-use Rattle.lxt_written.specs.Input.{Facility, Change, Trace, facilityOf, changeOf, traceOf, facilityRowAllowed, changeRowAllowed, rowsAllowed}
-use Rattle.lxt_written.specs.WrittenChanges.{numbered, Laid, layAt, layFrom, laid, changesBytes}
-use Rattle.lxt_written.specs.WrittenFile.{header, namesFrom, namesOf, entriesOf, anyReal, sectionsOf, listBytes, placesOf, fileOf}
-use Rattle.lxt_written.specs.Writing.{nameAllowed, factsFor, facilityAllowed, valueAllowed, valueOfAllowed, changesAllowed, traceAllowed, inputAllowed}
+use Rattle.lxt_written.specs.Input.{Change, Trace, facilityOf, changeOf, traceOf, facilityRowAllowed, changeRowAllowed, rowsAllowed}
+use Rattle.lxt_written.specs.WrittenChanges.{numbered, layAt, layFrom, laid, changesBytes}
+use Rattle.lxt_written.specs.WrittenFile.{header, namesOf, entriesOf, anyReal, sectionsOf, listBytes, placesOf, fileOf}
+use Rattle.lxt_written.specs.Writing.{nameAllowed, factsFor, facilityAllowed, valueOfAllowed, changesAllowed, traceAllowed, inputAllowed}
 use Rattle.lxt_layout.specs.declared.Sizes.{Sizes}
 use Rattle.lxt_layout.specs.declared.Places.{Places}
 use Rattle.lxt_layout.specs.Layout.{Bounded, PlacesFor, Measures}
 use Rattle.lxt_layout.proofs.WholeLaws.{file-long}
-use Rattle.lxt_facilities.specs.Rows.{namesIn, facilitiesAllowed, FacilitiesMeasured}
+use Rattle.lxt_facilities.specs.Rows.{facilitiesAllowed, FacilitiesMeasured}
 use Rattle.lxt_facilities.specs.declared.names.Measured.{Measured as Facilities}
 use Rattle.lxt_writer.specs.declared.changes.Measured.{Measured as Changes}
 use Rattle.lxt_writer.specs.declared.plan.Plan.{Plan}
@@ -32,6 +31,7 @@ use Rattle.lxt_writer.specs.Plan.{Planned}
 
 -- ---- a table of zeros
 
+-- its first n numbers are one with no change yet
 pub zeros-fresh : (n size : ℕ) → n ≤ size → Fresh (take n (replicate {A = ℕ} size 0)) n
 zeros-fresh n size h = record { long = long n size h; none = λ f. none n size f }
   where
@@ -47,6 +47,7 @@ zeros-fresh n size h = record { long = long n size h; none = λ f. none n size f
 -- ---- names do not matter for the changes
 
 module _ (names : List ℕ) where
+  -- a facility has the same kind and width with and without its name
   facility-same : (rows : List (List ℕ)) (f : ℕ)
       → (numbered (map (facilityOf names) rows) f .kind ≡ numbered (nameless rows) f .kind)
       × (factsFor (numbered (map (facilityOf names) rows) f) ≡ factsFor (numbered (nameless rows) f))
@@ -56,11 +57,12 @@ module _ (names : List ℕ) where
   facility-same (row ∷ rows) (suc f) = facility-same rows f
 
   module _ (rows : List (List ℕ)) where
+    -- so its changes are laid, and its values allowed, as without
     laid-same : (o : ℕ) (before : List Pair) (c : Change) → layAt (map (facilityOf names) rows) o before c ≡ layAt (nameless rows) o before c
     unfolding layAt
     laid-same o before c = rw (facility-same rows (c .facility) .0)
 
-    pub lay-nameless : (o : ℕ) (before : List Pair) (cs : List Change) → layFrom (map (facilityOf names) rows) o before cs ≡ layFrom (nameless rows) o before cs
+    lay-nameless : (o : ℕ) (before : List Pair) (cs : List Change) → layFrom (map (facilityOf names) rows) o before cs ≡ layFrom (nameless rows) o before cs
     unfolding layFrom
     lay-nameless o before [] = refl
     lay-nameless o before (c ∷ cs) = rw (laid-same o before c) (ap (λ l. layAt (nameless rows) o before c ∷ l) (lay-nameless _ _ cs))
@@ -71,13 +73,14 @@ module _ (names : List ℕ) where
         let s = facility-same rows f in
         rw (length-map rows (facilityOf names), length-map rows (facilityOf []), s .0, s .1)
 
-    pub allowed-nameless : (time : ℕ) (cs : List Change) → changesAllowed (map (facilityOf names) rows) time cs ≡ changesAllowed (nameless rows) time cs
+    allowed-nameless : (time : ℕ) (cs : List Change) → changesAllowed (map (facilityOf names) rows) time cs ≡ changesAllowed (nameless rows) time cs
     unfolding changesAllowed
     allowed-nameless time [] = refl
     allowed-nameless time (c ∷ cs) = rw (value-same (c .facility) (c .value), allowed-nameless (c .time) cs)
 
 -- ---- facilities
 
+-- two tests of all are one of both
 both-all : {A : Type 0} {B : Type 0} (p : A → Bool) (q : B → Bool) (g : A → B) (xs : List A) → all (λ x. p x && q (g x)) xs ≡ (all p xs && all q (map g xs))
 unfolding all
 both-all p q g [] = refl
@@ -103,11 +106,14 @@ widths-of names (row ∷ rows) h (suc f) k =
 -- ---- the whole input
 
 module _ (facilities : List (List ℕ)) (names : List ℕ) (changes : List (List ℕ)) (values : List ℕ) (initial : ℕ) (timescale : ℤ) where
-  abbrev pub trace : Trace
+  abbrev trace : Trace
   trace = traceOf facilities names changes values initial timescale
 
   abbrev valuesAllowed : Bool
   valuesAllowed = leb (length facilities) mostFacilities && (timescaleAllowed timescale && leb initial 8)
+
+  count-of : valuesAllowed ≡ true → length facilities ≤ mostFacilities
+  count-of y = leb-true _ _ (and-both (leb (length facilities) mostFacilities) (timescaleAllowed timescale && leb initial 8) y .0)
 
   abbrev changesSound : Bool
   changesSound = all (changeRowAllowed values) changes && changesAllowed (nameless facilities) 0 (map (changeOf values) changes)
@@ -145,6 +151,7 @@ module _ (facilities : List (List ℕ)) (names : List ℕ) (changes : List (List
   unfolding laid
   laid-rows = lay-nameless names facilities 4 [] (map (changeOf values) changes)
 
+  -- they end where the changes of the file do
   pub changes-end : endFrom facilities values 4 [] changes ≡ 4 + length (changesBytes trace)
   unfolding changesBytes
   changes-end = ap (λ ls. 4 + length (joined (λ l. l .bytes) ls)) (sym laid-rows)
@@ -158,7 +165,7 @@ module _ (facilities : List (List ℕ)) (names : List ℕ) (changes : List (List
       let b = length-append (changesBytes trace) rest in
       omega arith
 
-  -- changes that are allowed, in a file that is short enough
+  -- changes that are allowed, in a file that is short enough, end within the longest file
   sound-of : changesSound ≡ true → length (fileOf trace) ≤ longestFile → soundFrom facilities values 4 [] 0 changes ≡ true
   unfolding soundFrom
   sound-of y short =
@@ -178,7 +185,9 @@ module _ (facilities : List (List ℕ)) (names : List ℕ) (changes : List (List
 
   -- ---- where something is not allowed
 
-  pub planned-refused : (r : Plan) → r .sound ≡ false → inputAllowed facilities names changes values initial timescale ≡ false → Planned facilities names changes values initial timescale r
+  -- then the plan says no
+  pub planned-refused : (r : Plan) → r .sound ≡ false → inputAllowed facilities names changes values initial timescale ≡ false
+      → Planned facilities names changes values initial timescale r
   planned-refused r n e =
       let no : r .sound ≡ true → ⊥ = λ y. true≢false (sym y ∙ n) in
       record {
@@ -189,21 +198,16 @@ module _ (facilities : List (List ℕ)) (names : List ℕ) (changes : List (List
         memory-most = λ y. absurd (no y);
       }
 
-  not-false : (b : Bool) → not b ≡ true → b ≡ false
-  not-false true e = absurd (true≢false (sym e))
-  not-false false e = refl
-
+  -- each of the three parts that are found first refuses the whole
   pub values-refused : (b : Bool) → b ≡ valuesAllowed → not b ≡ true → inputAllowed facilities names changes values initial timescale ≡ false
-  values-refused b e n = input-parts ∙ rw (sym e ∙ not-false b n)
+  values-refused b e n = input-parts ∙ rw (sym e ∙ not-true b n)
 
-  pub facilities-refused : (m : Facilities) → FacilitiesMeasured names facilities m → not (m .sound) ≡ true → inputAllowed facilities names changes values initial timescale ≡ false
-  facilities-refused m f n = input-parts ∙ rw (sym (f .sound) ∙ not-false (m .sound) n) (last-false valuesAllowed)
-    where
-      last-false : (a : Bool) → (a && false) ≡ false
-      last-false true = refl
-      last-false false = refl
+  pub facilities-refused : (m : Facilities) → FacilitiesMeasured names facilities m → not (m .sound) ≡ true
+      → inputAllowed facilities names changes values initial timescale ≡ false
+  facilities-refused m f n = input-parts ∙ rw (sym (f .sound) ∙ not-true (m .sound) n) (and-false valuesAllowed)
 
-  pub changes-refused : (m : Changes) → ChangesMeasured facilities changes values m → not (m .sound) ≡ true → inputAllowed facilities names changes values initial timescale ≡ false
+  pub changes-refused : (m : Changes) → ChangesMeasured facilities changes values m → not (m .sound) ≡ true
+      → inputAllowed facilities names changes values initial timescale ≡ false
   changes-refused m c n =
       on-test (inputAllowed facilities names changes values initial timescale)
       (λ y.
@@ -212,33 +216,31 @@ module _ (facilities : List (List ℕ)) (names : List ℕ) (changes : List (List
       let last = and-both (facilitiesAllowed names facilities) (changesSound && leb (length (fileOf trace)) longestFile) later .1 in
       let both = and-both changesSound (leb (length (fileOf trace)) longestFile) last in
       let s = sound-of (both .0) (leb-true _ _ (both .1)) in
-      absurd (true≢false (sym s ∙ sym (c .sound) ∙ not-false (m .sound) n)))
+      absurd (true≢false (sym s ∙ sym (c .sound) ∙ not-true (m .sound) n)))
       (λ y. y)
 
   -- ---- where all is allowed but for the length of the file
 
   module _ (b : Bool) (vb : b ≡ valuesAllowed) (vn : not b ≡ false) where
-    yes-of : (b : Bool) → not b ≡ false → b ≡ true
-    yes-of true e = refl
-    yes-of false e = absurd (true≢false e)
-
     pub count-small : length facilities ≤ mostFacilities
-    count-small = leb-true _ _ (and-both (leb (length facilities) mostFacilities) (timescaleAllowed timescale && leb initial 8) (sym vb ∙ yes-of b vn) .0)
+    count-small = count-of (sym vb ∙ not-false b vn)
 
     module _ (f : Facilities) (fm : FacilitiesMeasured names facilities f) (fn : not (f .sound) ≡ false) where
       facilities-yes : facilitiesAllowed names facilities ≡ true
-      facilities-yes = sym (fm .sound) ∙ yes-of (f .sound) fn
+      facilities-yes = sym (fm .sound) ∙ not-false (f .sound) fn
 
       pub widths-small : Widths facilities
       widths-small = widths-of names facilities facilities-yes
 
       module _ (c : Changes) (cm : ChangesMeasured facilities changes values c) (cn : not (c .sound) ≡ false) where
+        -- the sizes that are found
         abbrev sizes : Sizes
         sizes = record { facilities = length facilities; names = f .size; changes = c .end; entries = c .entries; real = f .real }
 
+        -- they are small enough for the code's numbers, and those of the trace's file
         pub sizes-bounded : Bounded sizes
         sizes-bounded =
-            let y = yes-of (c .sound) cn in
+            let y = not-false (c .sound) cn in
             let n = count-small in
             record {
               facilities = n;
@@ -250,8 +252,8 @@ module _ (facilities : List (List ℕ)) (names : List ℕ) (changes : List (List
         sizes-measure : Measures trace sizes
         unfolding namesOf anyReal
         sizes-measure =
-            let y = yes-of (c .sound) cn in
-            let z = yes-of (f .sound) fn in
+            let y = not-false (c .sound) cn in
+            let z = not-false (f .sound) fn in
             record {
               facilities = sym (length-map facilities (facilityOf names));
               names = fm .size z;
@@ -260,14 +262,16 @@ module _ (facilities : List (List ℕ)) (names : List ℕ) (changes : List (List
               real = fm .real z;
             }
 
-        pub planned : (p : Places) → PlacesFor sizes p → Planned facilities names changes values initial timescale (record { sound = leb (p .length) longestFile; sizes = sizes; memory = f .memory })
+        -- the input is allowed where the file is short enough
+        pub planned : (p : Places) → PlacesFor sizes p
+            → Planned facilities names changes values initial timescale (record { sound = leb (p .length) longestFile; sizes = sizes; memory = f .memory })
         unfolding namesOf
         planned p pf =
-            let z = yes-of (f .sound) fn in
+            let z = not-false (f .sound) fn in
             let n = count-small in
-            let cs : changesSound ≡ true = sound-parts (sym (cm .sound) ∙ yes-of (c .sound) cn) in
+            let cs : changesSound ≡ true = sound-parts (sym (cm .sound) ∙ not-false (c .sound) cn) in
             record {
-              sound = sym (input-parts ∙ rw (sym vb ∙ yes-of b vn, facilities-yes, cs, ← file-long trace sizes p sizes-measure pf));
+              sound = sym (input-parts ∙ rw (sym vb ∙ not-false b vn, facilities-yes, cs, ← file-long trace sizes p sizes-measure pf));
               sizes = λ y. sizes-measure;
               bounded = λ y. sizes-bounded;
               memory = λ y. fm .memory z;
@@ -277,6 +281,7 @@ module _ (facilities : List (List ℕ)) (names : List ℕ) (changes : List (List
   -- ---- an input that is allowed
 
   module _ (y : inputAllowed facilities names changes values initial timescale ≡ true) where
+    -- each part is
     input-all : (valuesAllowed && (facilitiesAllowed names facilities && (changesSound && leb (length (fileOf trace)) longestFile))) ≡ true
     input-all = sym input-parts ∙ y
 
@@ -284,7 +289,7 @@ module _ (facilities : List (List ℕ)) (names : List ℕ) (changes : List (List
     input-later = and-both valuesAllowed _ input-all .1
 
     pub allowed-count : length facilities ≤ mostFacilities
-    allowed-count = leb-true _ _ (and-both (leb (length facilities) mostFacilities) (timescaleAllowed timescale && leb initial 8) (and-both valuesAllowed _ input-all .0) .0)
+    allowed-count = count-of (and-both valuesAllowed _ input-all .0)
 
     pub allowed-facilities : facilitiesAllowed names facilities ≡ true
     allowed-facilities = and-both (facilitiesAllowed names facilities) _ input-later .0

@@ -1,48 +1,44 @@
 -- Laws of the second pass over the changes.
-use Prim.Native.Nat.{ℕ, zero, suc, _+_, _*_, _-_, _≤_, _<_}
+use Prim.Native.Nat.{ℕ, _+_, _-_, _≤_, _<_}
 use native.Mathlib.Omega.{arith}
 use native.Mathlib.Nat.{add-zero}
 use mathlib.Core.Path.{_≡_, refl, sym, ap, _∙_}
-use mathlib.Core.Bool.{Bool, true, false, _&&_}
+use mathlib.Core.Bool.{true, _&&_}
 use mathlib.Core.List.{List, [], _∷_, _++_, map, reverse, reverseAux, append-assoc, append-nil}
 use lib.ListN.{length, getD, drop, set, length-append, length-map}
 use lib.Seq.{slice}
-use lib.Dec.{leb, ltb, eqb}
-use borrow.Author.Tests.{leb-true, ltb-true}
-use Rattle.lxt_format.specs.Limits.{longestFile, widestFacility}
+use lib.Dec.{leb, ltb}
+use borrow.Author.Tests.{leb-true}
+use Rattle.lxt_format.specs.Limits.{longestFile}
 use Rattle.lxt_format.specs.Basics.{all, joined}
 use Rattle.lxt_format.specs.BasicsLaws.{and-both}
 use Rattle.lxt_format.specs.Buffers.{placed, length-placed}
 use Rattle.lxt_format.specs.Geometry.{factsBy}
 use Rattle.lxt_format.specs.declared.Kind.{Kind}
-use Rattle.lxt_format.specs.declared.Pair.{Pair}
 use Rattle.lxt_written.specs.Input.{part, kindOfCode, facilityOf, changeOf, changeRowAllowed}
-use Rattle.lxt_written.specs.WrittenChanges.{changeBytes, numbered, lastOf, Laid, pairOf, layAt, layFrom}
-use Rattle.lxt_written.specs.WrittenFile.{words, deltasFrom, entriesOf}
-use Rattle.lxt_written.specs.Writing.{factsFor, valueAllowed, valueOfAllowed, changesAllowed}
+use Rattle.lxt_written.specs.WrittenChanges.{lastOf, Laid, pairOf, layAt, layFrom}
+use Rattle.lxt_written.specs.WrittenFile.{deltasFrom, entriesOf}
+use Rattle.lxt_written.specs.Writing.{factsFor, valueOfAllowed, changesAllowed}
 use Rattle.lxt_written.specs.Stands.{Stands}
 use Rattle.lxt_written.specs.TableSizes.{length-words}
 use Rattle.lxt_written.specs.WrittenLaws.{length-deltas}
-use Rattle.lxt_pack.specs.Change.{Part, Sound, Puts}
-use Rattle.lxt_layout.proofs.PlacedLaws.{placed-stands, placed-below, placed-above, placed-tail, stands-join-at}
+use Rattle.lxt_pack.specs.Change.{Sound, Puts}
+use Rattle.lxt_layout.proofs.PlacedLaws.{placed-stands, placed-below, placed-tail, stands-join-at}
 use Rattle.lxt_writer.specs.declared.changes.Entry.{Entry}
-use Rattle.lxt_writer.specs.Changes.{nameless, layRows, endFrom, soundFrom, Laying, rowAllowed, rowBytes, isNew, entriesLeft, EntryAsked, EntryPut, RowAsked, RowPut, positionsOf, timesOf, PutAsked, ChangesPut, EntriesPut, Writing}
+use Rattle.lxt_writer.specs.Changes.{nameless, layRows, endFrom, soundFrom, rowAllowed, rowBytes, isNew, entriesLeft}
+use Rattle.lxt_writer.specs.Changes.{EntryAsked, EntryPut, RowAsked, RowPut, positionsOf, timesOf, PutAsked, ChangesPut, EntriesPut, Writing}
 use Rattle.lxt_writer.proofs.RowLaws.{numbered-row, width-known, row-known, row-laid, row-long, row-newest}
 use Rattle.lxt_writer.proofs.MeasureLaws.{row-next, row-none, laidAt, lay-next, sound-next, entries-none}
-use Rattle.lxt_writer.proofs.EntryLaws.{entry-time, entry-behind, entry-room, entries-turn, entry-long, entry-below, entry-tail, entries-kept}
+use Rattle.lxt_writer.proofs.EntryLaws.{entry-time, entry-behind, Entered, entry-room, entered, entries-kept}
 
 -- ---- one row
 
 module _ (rows : List (List ℕ)) (row values last out : List ℕ) (o : ℕ) (a : RowAsked rows row values last out o) where
   -- its facility is one, and its part lies in the pool
   pub asked-known : getD row 0 0 < length rows
-  unfolding rowAllowed valueOfAllowed
-  asked-known =
-      let n = length-map rows (facilityOf []) in
-      let y = and-both (ltb (getD row 0 0) (length (nameless rows))) _ (and-both (changeRowAllowed values row) _ (a .allowed) .1) .0 in
-      omega (arith, ltb-true (getD row 0 0) (length (nameless rows)) y)
+  asked-known = row-known rows row values (a .allowed)
 
-  pub asked-inside : getD row 2 0 + getD row 3 0 ≤ length values
+  asked-inside : getD row 2 0 + getD row 3 0 ≤ length values
   unfolding rowAllowed changeRowAllowed
   asked-inside = leb-true _ _ (and-both (leb (getD row 2 0 + getD row 3 0) (length values)) _ (a .allowed) .0)
 
@@ -61,7 +57,9 @@ module _ (rows : List (List ℕ)) (row values last out : List ℕ) (o : ℕ) (a 
         room = rw (ek, ed) (a .room);
       }
 
-  pub row-put : (kind : Kind) (delta : ℕ) (out′ : List ℕ) (r : ℕ) → kind ≡ kindOfCode (getD (getD rows (getD row 0 0) []) 2 0) → delta ≡ o - getD last (getD row 0 0) 0 - 2
+  -- it is put
+  pub row-put : (kind : Kind) (delta : ℕ) (out′ : List ℕ) (r : ℕ) → kind ≡ kindOfCode (getD (getD rows (getD row 0 0) []) 2 0)
+      → delta ≡ o - getD last (getD row 0 0) 0 - 2
       → Puts kind (slice (getD row 2 0) (getD row 2 0 + getD row 3 0) values) delta out o out′ r → RowPut (rowBytes rows row values last o) out o out′ r
   unfolding rowBytes part
   row-put kind delta out′ r ek ed p = record { puts = p .puts ∙ rw (ek, ed); ends = p .ends ∙ rw (ek, ed) }
@@ -73,17 +71,21 @@ stands-none : (s : List ℕ) (o : ℕ) → o ≤ length s → Stands s o []
 stands-none s o h = record { within = omega arith; same = λ i k. absurd (omega arith) }
 
 module _ (rows changes : List (List ℕ)) (values last out : List ℕ) (positions gap : ℕ) (a : PutAsked rows changes values last out positions gap) where
+  -- all changes, laid
   whole : List Laid
   whole = layRows rows values 4 [] changes
 
-  column-long : (g : Laid → ℕ) → gap ≡ length (words (deltasFrom 0 (map g (entriesOf whole))))
+  -- the columns are as long as the gap
+  column-long : gap ≡ length (positionsOf 0 (entriesOf whole))
   unfolding whole
-  column-long g =
-      let e = length-words (deltasFrom 0 (map g (entriesOf (layRows rows values 4 [] changes)))) in
-      let d = length-deltas 0 (map g (entriesOf (layRows rows values 4 [] changes))) in
-      let m = length-map (entriesOf (layRows rows values 4 [] changes)) g in
+  column-long =
+      let entries : List Laid = entriesOf (layRows rows values 4 [] changes) in
+      let e = length-words (deltasFrom 0 (map (λ l. l .offset) entries)) in
+      let d = length-deltas 0 (map (λ l. l .offset) entries) in
+      let m = length-map entries (λ l. l .offset) in
       omega (arith, a .column)
 
+  -- none is put yet
   pub writing-begun : Writing rows changes values out positions gap 0 4 (record { at = positions; position = 0; time = 0 }) last out
   unfolding entriesLeft lastOf
   writing-begun =
@@ -122,6 +124,7 @@ module _ (rows changes : List (List ℕ)) (values last out : List ℕ) (position
 
   module _ (i o : ℕ) (e : Entry) (last′ out′ : List ℕ) (w : Writing rows changes values out positions gap i o e last′ out′) where
     module _ (h : i < length changes) where
+      -- the row that comes next, its change, and those after it
       row : List ℕ
       row = getD changes i []
 
@@ -131,7 +134,7 @@ module _ (rows changes : List (List ℕ)) (values last out : List ℕ) (position
       later : List Laid
       later = layRows rows values (o + length (step .bytes)) (pairOf step ∷ w .before) (drop (i + 1) changes)
 
-      -- the change of the row, and those after it
+      -- they are what is left
       left-here : layRows rows values o (w .before) (drop i changes) ≡ step ∷ later
       unfolding row step later
       left-here = rw (row-next changes i h) (lay-next rows values o (w .before) (getD changes i []) (drop (i + 1) changes))
@@ -150,8 +153,9 @@ module _ (rows changes : List (List ℕ)) (values last out : List ℕ) (position
 
       -- the facility of the row has a place in the table
       pub table-has : (f : ℕ) → f ≡ getD (getD changes i []) 0 0 → f < length last′
-      table-has f ef = omega (arith, row-known rows (getD changes i []) values last′ (w .before) o (w .laying) (here-sound .1), w .laying .free .long)
+      table-has f ef = omega (arith, row-known rows (getD changes i []) values (here-sound .1), w .laying .free .long)
 
+      -- its bytes are those of its change
       bytes-are : step .bytes ≡ rowBytes rows (getD changes i []) values last′ o
       unfolding row step
       bytes-are = row-laid rows (getD changes i []) values last′ (w .before) o (w .laying) (here-sound .1)
@@ -202,7 +206,7 @@ module _ (rows changes : List (List ℕ)) (values last out : List ℕ) (position
           let room = room-here in
           let place = w .entries .place in
           let fits : isNew o (e .time) (getD (getD changes i []) 1 0) ≡ true → e .at + 4 ≤ positions + gap = λ y.
-          entry-room _ _ positions gap (column-long (λ l. l .offset)) (column-long (λ l. l .time)) o step later step-at e out′ entries-here room (rw step-time y) in
+          entry-room _ _ positions gap column-long o step later step-at e out′ entries-here room (rw step-time y) in
           record {
             apart = λ y. let f = fits y in omega arith;
             room = λ y. let f = fits y in omega arith;
@@ -221,15 +225,22 @@ module _ (rows changes : List (List ℕ)) (values last out : List ℕ) (position
             let b = ap length bytes-are in
             omega (arith, w .from)
 
-        one-long : length one ≡ length out′
-        one-long =
-            entry-long _ _ positions gap (column-long (λ l. l .offset)) (column-long (λ l. l .time)) o step later step-at e out′ entries-here room-here one e₁ put-here
-            (o + length (step .bytes)) above
+        entry-done : Entered
+            (positionsOf 0 (entriesOf whole))
+            (timesOf 0 (entriesOf whole))
+            (entriesLeft (o + length (step .bytes)) (step .time) later)
+            positions
+            gap
+            e₁
+            out′
+            one
+        entry-done =
+            entered _ _ positions gap column-long o step later step-at e out′ entries-here room-here (o + length (step .bytes)) above one e₁ put-here
 
         -- the change can be put
         pub row-asked : RowAsked rows (getD changes i []) values last′ one o
         row-asked =
-            let l = one-long in
+            let l = entry-done .long in
             let room = step-room in
             let b = ap length bytes-are in
             let r = room-here in
@@ -249,24 +260,25 @@ module _ (rows changes : List (List ℕ)) (values last out : List ℕ) (position
             let ends : o + length bytes ≡ r = ap (λ k. o + k) b ∙ sym (p .ends) in
             let puts : two ≡ placed one o bytes = p .puts ∙ rw (← bytes-are) in
             let time : e₁ .time ≡ t = entry-time out′ e gap o t one e₁ put in
-            let long = one-long in
+            let long = entry-done .long in
             let fits = room-here in
             let wide : o + length bytes ≤ length one = omega arith in
             let n = length-append (w .done) bytes in
-            let turned = entries-turn _ _ positions gap (column-long (λ l. l .offset)) (column-long (λ l. l .time)) o step later step-at e out′ entries-here room-here one e₁ put-here (o + length bytes) above in
-            let kept : Stands one 4 (w .done) =
-            entry-below _ _ positions gap (column-long (λ l. l .offset)) (column-long (λ l. l .time)) o step later step-at e out′ entries-here room-here one e₁ put-here (o + length bytes) above
-            4 (w .done) (w .stands) (omega (arith, w .place)) in
+            let turned = entry-done .entries in
+            let kept : Stands one 4 (w .done) = entry-done .below 4 (w .done) (w .stands) (omega (arith, w .place)) in
+            let laying = row-newest rows (getD changes i []) values last′ (w .before) o (w .laying) (here-sound .1) (length bytes) (omega arith) step-short in
+            let left : joined (λ y. y .bytes) (layRows rows values o (w .before) (drop i changes)) ≡ bytes ++ joined (λ y. y .bytes) later =
+            ap (joined (λ y. y .bytes)) left-here in
             record {
               before = pairOf step ∷ w .before;
               done = w .done ++ bytes;
-              laying = rw (ef, ← ends) (row-newest rows (getD changes i []) values last′ (w .before) o (w .laying) (here-sound .1) (length bytes) (omega arith) step-short);
+              laying = rw (ef, ← ends) laying;
               upto = omega arith;
               from = omega (arith, w .from);
               behind = omega (arith, entry-behind out′ e gap o t one e₁ put (w .behind));
               sound = rw (time, ← ends) (here-sound .2);
               pairs = rw (← ends) (w .pairs ∙ ap (λ x. reverseAux (map pairOf x) (w .before)) left-here);
-              bytes = rw (← ends) (w .bytes ∙ ap (λ x. w .done ++ joined (λ y. y .bytes) x) left-here ∙ sym (append-assoc (w .done) bytes (joined (λ y. y .bytes) later)));
+              bytes = rw (← ends) (w .bytes ∙ rw left (sym (append-assoc (w .done) bytes (joined (λ y. y .bytes) later))));
               place = omega (arith, w .place);
               stands =
                   rw puts
@@ -279,7 +291,7 @@ module _ (rows changes : List (List ℕ)) (values last out : List ℕ) (position
               long = rw puts (length-placed one o bytes wide ∙ long ∙ w .long);
               tail = λ k q.
                   rw puts (placed-tail one o bytes wide k (omega arith))
-                  ∙ entry-tail _ _ positions gap (column-long (λ l. l .offset)) (column-long (λ l. l .time)) o step later step-at e out′ entries-here room-here one e₁ put-here (o + length bytes) above k q
+                  ∙ entry-done .tail k q
                   ∙ w .tail k q;
             }
 

@@ -1,15 +1,15 @@
 -- What the functions over the rows of changes answer and ask. `rows` are those of the facilities, `row` is one of a change.
-use Prim.Native.Nat.{ℕ, zero, suc, _+_, _*_, _-_, _≤_, _<_}
+use Prim.Native.Nat.{ℕ, _+_, _*_, _-_, _≤_, _<_}
 use mathlib.Core.Path.{_≡_}
 use mathlib.Core.Bool.{Bool, true, false, not, _&&_, _||_}
-use mathlib.Core.List.{List, [], _∷_, _++_, map, reverse, reverseAux}
+use mathlib.Core.List.{List, [], _++_, map, reverse, reverseAux}
 use lib.ListN.{length, getD, drop}
-use lib.Dec.{leb, ltb, eqb}
+use lib.Dec.{leb, eqb}
 use Rattle.lxt_format.specs.Limits.{longestFile, widestFacility}
 use Rattle.lxt_format.specs.Basics.{if_then_else_, all, joined}
 use Rattle.lxt_format.specs.Buffers.{placed}
 use Rattle.lxt_format.specs.declared.Pair.{Pair}
-use Rattle.lxt_written.specs.Input.{Facility, Change, part, kindOfCode, facilityOf, changeOf, changeRowAllowed}
+use Rattle.lxt_written.specs.Input.{Facility, part, kindOfCode, facilityOf, changeOf, changeRowAllowed}
 use Rattle.lxt_written.specs.WrittenChanges.{bigEndian, changeBytes, lastOf, Laid, pairOf, layFrom}
 use Rattle.lxt_written.specs.WrittenFile.{words, deltasFrom, newTimesAfter, entriesOf}
 use Rattle.lxt_written.specs.Writing.{factsFor, valueOfAllowed, changesAllowed}

@@ -5,11 +5,10 @@ use mathlib.Core.Bool.{Bool, true}
 use mathlib.Core.List.{List, [], _∷_, _++_, map}
 use lib.ListN.{length, getD}
 use lib.IntN.{ℤ}
-use Rattle.lxt_format.specs.Limits.{longestFile, mostFacilities}
+use Rattle.lxt_format.specs.Limits.{mostFacilities}
 use Rattle.lxt_format.specs.Basics.{joined}
 use Rattle.lxt_format.specs.Names.{memoryOf}
-use Rattle.lxt_written.specs.Input.{Trace, facilityOf, traceOf}
-use Rattle.lxt_written.specs.WrittenChanges.{bigEndian}
+use Rattle.lxt_written.specs.Input.{facilityOf, traceOf}
 use Rattle.lxt_written.specs.WrittenFile.{words, namesFrom, namesOf, geometryBytes}
 use Rattle.lxt_written.specs.Writing.{inputAllowed}
 use Rattle.lxt_layout.specs.declared.Sizes.{Sizes}

@@ -2,11 +2,9 @@
 // time table has; the second puts them, with the entries.
 ghost use mathlib.Core.Path.{_≡_};
 ghost use mathlib.Core.Bool.{false};
-ghost use Prim.Native.Nat.{_+_, _*_, _-_, _≤_, _<_};
+ghost use Prim.Native.Nat.{_+_, _-_, _≤_, _<_};
 ghost use lib.ListN.{length, getD};
-ghost use lib.Dec.{eqb};
 ghost use Rattle.lxt_format.specs.Basics.{if_then_else_};
-ghost use Rattle.lxt_format.specs.Buffers.{placed};
 ghost use Rattle.lxt_writer.specs.Changes.{Widths, Free, RowSized, isNew, Fresh, ChangesMeasured, rowBytes, EntryAsked, EntryPut, RowAsked, RowPut, PutAsked, ChangesPut};
 use lxt_facilities::facilities;
 use lxt_facilities::facilities::KIND;

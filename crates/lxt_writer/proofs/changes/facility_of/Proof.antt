@@ -6,8 +6,6 @@ use mathlib.Core.Path.{refl}
 use borrow.Author.Needs.{needs}
 use Rattle.lxt_writer.proofs.changes.facility_of.Statement.{statement}
 use Rattle.lxt_writer.proofs.changes.facility_of.Tie as tie
-use Rattle.lxt_writer.proofs.changes.facility_of.Reads as reads
-use Rattle.lxt_writer.proofs.changes.facility_of.Lts as lts
 
 array-read-result : tie.Need-array-read-result
 array-read-result c = search needs

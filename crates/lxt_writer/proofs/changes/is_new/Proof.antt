@@ -2,8 +2,6 @@ use mathlib.Core.Path.{refl}
 use Rattle.lxt_writer.specs.Changes.{isNew}
 use Rattle.lxt_writer.proofs.changes.is_new.Statement.{statement}
 use Rattle.lxt_writer.proofs.changes.is_new.Tie as tie
-use Rattle.lxt_writer.proofs.changes.is_new.Reads as reads
-use Rattle.lxt_writer.proofs.changes.is_new.Lts as lts
 
 returns : tie.Need-returns
 unfolding isNew

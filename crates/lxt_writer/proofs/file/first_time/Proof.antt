@@ -4,8 +4,6 @@ use Rattle.lxt_writer.proofs.FileLaws.{first-none}
 use borrow.Author.Needs.{needs}
 use Rattle.lxt_writer.proofs.file.first_time.Statement.{statement}
 use Rattle.lxt_writer.proofs.file.first_time.Tie as tie
-use Rattle.lxt_writer.proofs.file.first_time.Reads as reads
-use Rattle.lxt_writer.proofs.file.first_time.Lts as lts
 
 returns : tie.Need-returns
 returns c = first-none _ (c .if1 .taken)

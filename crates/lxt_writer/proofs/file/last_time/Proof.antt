@@ -4,8 +4,6 @@ use Rattle.lxt_writer.proofs.FileLaws.{final-none}
 use borrow.Author.Needs.{needs}
 use Rattle.lxt_writer.proofs.file.last_time.Statement.{statement}
 use Rattle.lxt_writer.proofs.file.last_time.Tie as tie
-use Rattle.lxt_writer.proofs.file.last_time.Reads as reads
-use Rattle.lxt_writer.proofs.file.last_time.Lts as lts
 
 returns : tie.Need-returns
 returns c = final-none _ (c .if1 .taken)

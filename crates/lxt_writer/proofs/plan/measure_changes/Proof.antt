@@ -3,18 +3,17 @@ use Rattle.lxt_writer.proofs.PlanLaws.{zeros-fresh}
 use borrow.Author.Needs.{needs}
 use Rattle.lxt_writer.proofs.plan.measure_changes.Statement.{statement}
 use Rattle.lxt_writer.proofs.plan.measure_changes.Tie as tie
-use Rattle.lxt_writer.proofs.plan.measure_changes.Reads as reads
-use Rattle.lxt_writer.proofs.plan.measure_changes.Lts as lts
-use Rattle.lxt_writer.proofs.changes.measure.Reads as measure-reads
 
 array-borrow-prefix-last : tie.Need-array-borrow-prefix-last
 array-borrow-prefix-last c = search needs
 
 slice-aggregate-measure : tie.Need-slice-aggregate-measure
-slice-aggregate-measure c = let start = c .before .before in sym (zeros-fresh _ 4096 (start .pre .1) .long)
+slice-aggregate-measure c = sym (zeros-fresh _ 4096 (c .before .before .pre .1) .long)
 
 measure-requires : tie.Need-measure-requires
-measure-requires c κs = let start = c .before .before in (start .pre .0, zeros-fresh _ 4096 (start .pre .1))
+measure-requires c κs =
+    let start = c .before .before in
+    (start .pre .0, zeros-fresh _ 4096 (start .pre .1))
 
 returns : tie.Need-returns
 returns c = search needs
