@@ -55,6 +55,8 @@ module _ (rows : List (List ℕ)) (row values last out : List ℕ) (o : ℕ) (a 
         wide = width-known facility kind _ ek refl (a .widths (getD row 0 0) asked-known);
         allowed = rw ek (rw (numbered-row rows (getD row 0 0) asked-known) at value);
         room = rw (ek, ed) (a .room);
+        spare = a .spare;
+        delta-small = omega (arith, a .free .below (getD row 0 0), a .free .most);
       }
 
   -- it is put
@@ -161,7 +163,7 @@ module _ (rows changes : List (List ℕ)) (values last out : List ℕ) (position
       bytes-are = row-laid rows (getD changes i []) values last′ (w .before) o (w .laying) (here-sound .1)
 
       -- they end below the columns, and within the longest file
-      step-room : o + length (step .bytes) ≤ positions
+      step-room : o + length (step .bytes) + 4 ≤ positions
       unfolding joined
       step-room =
           let l = ap length (w .bytes ∙ ap (λ x. w .done ++ joined (λ y. y .bytes) x) left-here) in
@@ -244,7 +246,7 @@ module _ (rows changes : List (List ℕ)) (values last out : List ℕ) (position
             let room = step-room in
             let b = ap length bytes-are in
             let r = room-here in
-            record { widths = a .widths; free = w .laying .free; allowed = here-sound .1; room = omega arith }
+            record { widths = a .widths; free = w .laying .free; allowed = here-sound .1; room = omega arith; spare = omega arith }
 
         -- both are put
         pub writing-turn : (two : List ℕ) (r f : ℕ) → RowPut (rowBytes rows (getD changes i []) values last′ o) one o two r → f ≡ getD (getD changes i []) 0 0
@@ -287,7 +289,7 @@ module _ (rows changes : List (List ℕ)) (values last out : List ℕ) (position
                   o
                   (w .place)
                   (placed-stands one o bytes wide));
-              entries = rw (puts, ← ends) (entries-kept _ _ _ positions gap e₁ one o bytes (rw (step-time, ← time) at turned) room);
+              entries = rw (puts, ← ends) (entries-kept _ _ _ positions gap e₁ one o bytes (rw (step-time, ← time) at turned) (omega (arith, room)));
               long = rw puts (length-placed one o bytes wide ∙ long ∙ w .long);
               tail = λ k q.
                   rw puts (placed-tail one o bytes wide k (omega arith))

@@ -133,6 +133,7 @@ pub record RowAsked (rows : List (List ℕ)) (row values last out : List ℕ) (o
   pub free : Free last (length rows) o
   pub allowed : rowAllowed rows row values ≡ true
   pub room : o + length (rowBytes rows row values last o) ≤ length out
+  pub spare : o + 4 ≤ length out
 
 pub record RowPut (bytes out : List ℕ) (o : ℕ) (out′ : List ℕ) (r : ℕ) : Type 0 where
   pub puts : out′ ≡ placed out o bytes
@@ -151,7 +152,7 @@ pub record PutAsked (rows changes : List (List ℕ)) (values last out : List ℕ
   pub fresh : Fresh last (length rows)
   pub sound : soundFrom rows values 4 [] 0 changes ≡ true
   pub column : gap ≡ 4 * length (entriesOf (layRows rows values 4 [] changes))
-  pub after : endFrom rows values 4 [] changes ≤ positions
+  pub after : endFrom rows values 4 [] changes + 4 ≤ positions
   pub room : positions + gap + gap ≤ length out
 
 -- they are put, and the table has the newest change of each facility
