@@ -1,13 +1,17 @@
--- The change of a row that is allowed is put as its kind says.
 use mathlib.Core.Path.{refl}
 use lib.ListN.{getD}
 use mir.Val.{Fits}
 use mir.Syntax.{w32}
 use native.Mathlib.Omega.{arith}
+use Rattle.lxt_writer.proofs.RowLaws.{bits-code}
 use Rattle.lxt_writer.proofs.WriteLaws.{asked-known, asked-sound, row-put}
 use borrow.Author.Needs.{needs}
 use Rattle.lxt_writer.proofs.changes.put_row.Statement.{statement}
 use Rattle.lxt_writer.proofs.changes.put_row.Tie as tie
+use Rattle.lxt_writer.proofs.changes.put_row.Reads as reads
+use Rattle.lxt_writer.proofs.changes.put_row.Lts as lts
+use Rattle.lxt_facilities.proofs.facilities.kind_of.Reads as kind-of-reads
+use Rattle.lxt_pack.proofs.change.put.Reads as put-reads
 
 array-read-f : tie.Need-array-read-f
 array-read-f c = search needs
@@ -28,51 +32,43 @@ cast-end : tie.Need-cast-end
 cast-end c = search needs
 
 add-end : tie.Need-add-end
-add-end c =
-    let start = c .before .before .before in
-    let row = start .args .t2 in
-    let a : Fits w32 (getD row 2 0) = search needs in
-    let b : Fits w32 (getD row 3 0) = search needs in
-    omega arith
+add-end c = let row = c .before .before .before .args .t2 in let a : Fits w32 (getD row 2 0) = search needs in let b : Fits w32 (getD row 3 0) = search needs in omega arith
 
 mul-facility : tie.Need-mul-facility
-mul-facility c =
-    let start = c .before .before .before in
-    let known = asked-known _ _ _ _ _ _ (start .pre) in
-    omega arith
+mul-facility c = let start = c .before .before .before in let known = asked-known _ _ _ _ _ _ (start .pre) in omega arith
 
 shared-slice-copy-out-facility : tie.Need-shared-slice-copy-out-facility
-shared-slice-copy-out-facility c =
-    let start = c .before .before .before in
-    let known = asked-known _ _ _ _ _ _ (start .pre) in
-    omega arith
+shared-slice-copy-out-facility c = let start = c .before .before .before in let known = asked-known _ _ _ _ _ _ (start .pre) in omega arith
 
 mul-delta : tie.Need-mul-delta
-mul-delta c =
-    let start = c .before .before .before .before in
-    let known = asked-known _ _ _ _ _ _ (start .pre) in
-    omega (arith, start .pre .free .long)
+mul-delta c = let start = c .before .before .before .before in let known = asked-known _ _ _ _ _ _ (start .pre) in omega (arith, start .pre .free .long)
 
 shared-slice-read-delta : tie.Need-shared-slice-read-delta
-shared-slice-read-delta c =
-    let start = c .before .before .before .before .before in
-    let known = asked-known _ _ _ _ _ _ (start .pre) in
-    omega (arith, start .pre .free .long)
+shared-slice-read-delta c = let start = c .before .before .before .before .before in let known = asked-known _ _ _ _ _ _ (start .pre) in omega (arith, start .pre .free .long)
 
 cast-delta : tie.Need-cast-delta
-cast-delta c =
-    let start = c .before .before .before .before .before in
-    omega (arith, start .pre .free .below (getD (start .args .t2) 0 0), start .pre .free .most)
+cast-delta c = let start = c .before .before .before .before .before in omega (arith, start .pre .free .below (getD (start .args .t2) 0 0), start .pre .free .most)
 
 sub-delta : tie.Need-sub-delta
-sub-delta c =
-    let start = c .before .before .before .before .before in
-    omega (arith, start .pre .free .below (getD (start .args .t2) 0 0))
+sub-delta c = let start = c .before .before .before .before .before in omega (arith, start .pre .free .below (getD (start .args .t2) 0 0))
 
 sub-delta-2 : tie.Need-sub-delta-2
-sub-delta-2 c =
-    let start = c .before .before .before .before .before in
-    omega (arith, start .pre .free .below (getD (start .args .t2) 0 0))
+sub-delta-2 c = let start = c .before .before .before .before .before in omega (arith, start .pre .free .below (getD (start .args .t2) 0 0))
+
+array-read-if1 : tie.Need-array-read-if1
+array-read-if1 c = search needs
+
+cast-put : tie.Need-cast-put
+cast-put c = let start = c .before .before .before .before .before .before in omega (arith, start .pre .free .most)
+
+put-requires : tie.Need-put-requires
+put-requires c κs = let start = c .before .before .before .before .before .before .before in let b : Fits w32 (getD (start .args .t2) 3 0) = search needs in asked-sound _ _ _ _ _ _ (start .pre) _ _ (bits-code _ (c .before .if1 .taken)) refl (omega arith)
+
+same-length : tie.Need-same-length
+same-length c = search needs
+
+returns : tie.Need-returns
+returns c = let start = c .before .before .before .before .before .before .before .before .before .before in row-put _ _ _ _ _ _ (start .pre) _ _ _ _ (bits-code _ (c .before .before .before .before .if1 .taken)) refl (c .before .before .put .ensures)
 
 array-read-kind-of : tie.Need-array-read-kind-of
 array-read-kind-of c = search needs
@@ -80,27 +76,17 @@ array-read-kind-of c = search needs
 kind-of-requires : tie.Need-kind-of-requires
 kind-of-requires c κs = search needs
 
-cast-put : tie.Need-cast-put
-cast-put c =
-    let start = c .before .before .before .before .before .before in
-    omega (arith, start .pre .free .most)
+cast-put-2 : tie.Need-cast-put-2
+cast-put-2 c = let start = c .before .before .before .before .before .before .before in omega (arith, start .pre .free .most)
 
-put-requires : tie.Need-put-requires
-put-requires c κs =
-    let kinded = c .before in
-    let start = kinded .before .before .before .before .before .before in
-    let b : Fits w32 (getD (start .args .t2) 3 0) = search needs in
-    asked-sound _ _ _ _ _ _ (start .pre) _ _ (kinded .kind-of .ensures) refl (omega arith)
+put-requires-2 : tie.Need-put-requires-2
+put-requires-2 c κs = let start = c .before .before .before .before .before .before .before .before in let b : Fits w32 (getD (start .args .t2) 3 0) = search needs in asked-sound _ _ _ _ _ _ (start .pre) _ _ (c .before .kind-of .ensures) refl (omega arith)
 
-same-length : tie.Need-same-length
-same-length c = search needs
+same-length-2 : tie.Need-same-length-2
+same-length-2 c = search needs
 
-returns : tie.Need-returns
-returns c =
-    let at-put = c .before .before in
-    let kinded = at-put .before .before in
-    let start = kinded .before .before .before .before .before .before in
-    row-put _ _ _ _ _ _ (start .pre) _ _ _ _ (kinded .kind-of .ensures) refl (at-put .put .ensures)
+returns-2 : tie.Need-returns-2
+returns-2 c = let start = c .before .before .before .before .before .before .before .before .before .before .before in row-put _ _ _ _ _ _ (start .pre) _ _ _ _ (c .before .before .before .before .kind-of .ensures) refl (c .before .before .put2 .ensures)
 
 pub put-row-spec : {M : Type 1} → statement M
 put-row-spec =
@@ -120,9 +106,14 @@ put-row-spec =
     cast-delta
     sub-delta
     sub-delta-2
-    array-read-kind-of
-    kind-of-requires
+    array-read-if1
     cast-put
     put-requires
     same-length
-    returns)
+    returns
+    array-read-kind-of
+    kind-of-requires
+    cast-put-2
+    put-requires-2
+    same-length-2
+    returns-2)

@@ -1,13 +1,17 @@
--- A row is looked at, and then measured as its kind and width say.
 use mathlib.Core.Path.{refl}
 use lib.ListN.{getD}
 use mir.Val.{Fits}
 use mir.Syntax.{w32}
 use native.Mathlib.Omega.{arith}
-use Rattle.lxt_writer.proofs.RowLaws.{row-outside, row-past, row-sized, width-known}
+use Rattle.lxt_writer.proofs.RowLaws.{row-outside, row-past, row-sized, width-known, bits-code}
 use borrow.Author.Needs.{needs}
 use Rattle.lxt_writer.proofs.changes.row_size.Statement.{statement}
 use Rattle.lxt_writer.proofs.changes.row_size.Tie as tie
+use Rattle.lxt_writer.proofs.changes.row_size.Reads as reads
+use Rattle.lxt_writer.proofs.changes.row_size.Lts as lts
+use Rattle.lxt_facilities.proofs.facilities.kind_of.Reads as kind-of-reads
+use Rattle.lxt_facilities.proofs.facilities.width_of.Reads as width-of-reads
+use Rattle.lxt_pack.proofs.change.size_of.Reads as size-of-reads
 
 array-read-f : tie.Need-array-read-f
 array-read-f c = search needs
@@ -31,12 +35,7 @@ cast-end : tie.Need-cast-end
 cast-end c = search needs
 
 add-end : tie.Need-add-end
-add-end c =
-    let start = c .before .before .before in
-    let row = start .args .t2 in
-    let a : Fits w32 (getD row 2 0) = search needs in
-    let b : Fits w32 (getD row 3 0) = search needs in
-    omega arith
+add-end c = let row = c .before .before .before .args .t2 in let a : Fits w32 (getD row 2 0) = search needs in let b : Fits w32 (getD row 3 0) = search needs in omega arith
 
 returns-2 : tie.Need-returns-2
 returns-2 c = row-past _ _ _ _ _ (c .if2 .taken)
@@ -47,11 +46,23 @@ mul-facility c = search needs
 shared-slice-copy-out-facility : tie.Need-shared-slice-copy-out-facility
 shared-slice-copy-out-facility c = search needs
 
-array-read-kind-of : tie.Need-array-read-kind-of
-array-read-kind-of c = search needs
+mul-delta : tie.Need-mul-delta
+mul-delta c = search needs
 
-kind-of-requires : tie.Need-kind-of-requires
-kind-of-requires c κs = search needs
+shared-slice-read-delta : tie.Need-shared-slice-read-delta
+shared-slice-read-delta c = search needs
+
+cast-delta : tie.Need-cast-delta
+cast-delta c = let start = c .before .before .before .before .before .before in omega (arith, start .pre .1 .below (getD (start .args .t2) 0 0), start .pre .1 .most)
+
+sub-delta : tie.Need-sub-delta
+sub-delta c = let start = c .before .before .before .before .before .before in omega (arith, start .pre .1 .below (getD (start .args .t2) 0 0))
+
+sub-delta-2 : tie.Need-sub-delta-2
+sub-delta-2 c = let start = c .before .before .before .before .before .before in omega (arith, start .pre .1 .below (getD (start .args .t2) 0 0))
+
+array-read-if3 : tie.Need-array-read-if3
+array-read-if3 c = search needs
 
 array-read-width-of : tie.Need-array-read-width-of
 array-read-width-of c = search needs
@@ -62,52 +73,38 @@ array-read-width-of-2 c = search needs
 width-of-requires : tie.Need-width-of-requires
 width-of-requires c κs = search needs
 
-mul-delta : tie.Need-mul-delta
-mul-delta c = search needs
-
-shared-slice-read-delta : tie.Need-shared-slice-read-delta
-shared-slice-read-delta c = search needs
-
-cast-delta : tie.Need-cast-delta
-cast-delta c =
-    let start = c .before .before .before .before .before .before .before .before in
-    omega (arith, start .pre .1 .below (getD (start .args .t2) 0 0), start .pre .1 .most)
-
-sub-delta : tie.Need-sub-delta
-sub-delta c =
-    let start = c .before .before .before .before .before .before .before .before in
-    omega (arith, start .pre .1 .below (getD (start .args .t2) 0 0))
-
-sub-delta-2 : tie.Need-sub-delta-2
-sub-delta-2 c =
-    let start = c .before .before .before .before .before .before .before .before in
-    omega (arith, start .pre .1 .below (getD (start .args .t2) 0 0))
-
 cast-size-of : tie.Need-cast-size-of
-cast-size-of c =
-    let start = c .before .before .before .before .before .before .before .before in
-    omega (arith, start .pre .1 .most)
+cast-size-of c = let start = c .before .before .before .before .before .before .before .before in omega (arith, start .pre .1 .most)
 
 size-of-requires : tie.Need-size-of-requires
-size-of-requires c κs =
-    let sized = c .before in
-    let kinded = sized .before in
-    let inside = kinded .before .before in
-    let known = inside .before in
-    let start = known .before .before .before in
-    let row = start .args .t2 in
-    let b : Fits w32 (getD row 3 0) = search needs in
-    let wide = width-known _ _ _ (kinded .kind-of .ensures) (sized .width-of .ensures) (start .pre .0 _ (known .if1 .left)) in
-    (record { upto = omega arith; within = inside .if2 .left; size = omega arith }, wide)
+size-of-requires c κs = let start = c .before .before .before .before .before .before .before .before in let known = c .before .before .before .before .before in let inside = c .before .before .before .before in let b : Fits w32 (getD (start .args .t2) 3 0) = search needs in (record { upto = omega arith; within = inside .if2 .left; size = omega arith }, width-known _ _ _ (bits-code _ (c .before .if3 .taken)) (c .width-of .ensures) (start .pre .0 _ (known .if1 .left)))
 
 returns-3 : tie.Need-returns-3
-returns-3 c =
-    let sized = c .before .before in
-    let kinded = sized .before in
-    let inside = kinded .before .before in
-    let known = inside .before in
-    row-sized _ _ _ _ _ (known .if1 .left) (inside .if2 .left) _ _ _ _ (kinded .kind-of .ensures) (sized .width-of .ensures) refl
-    (c .size-of .ensures .0) (c .size-of .ensures .1)
+returns-3 c = row-sized _ _ _ _ _ (c .before .before .before .before .before .before .if1 .left) (c .before .before .before .before .before .if2 .left) _ _ _ _ (bits-code _ (c .before .before .if3 .taken)) (c .before .width-of .ensures) refl (c .size-of .ensures .0) (c .size-of .ensures .1)
+
+array-read-kind-of : tie.Need-array-read-kind-of
+array-read-kind-of c = search needs
+
+kind-of-requires : tie.Need-kind-of-requires
+kind-of-requires c κs = search needs
+
+array-read-width-of-3 : tie.Need-array-read-width-of-3
+array-read-width-of-3 c = search needs
+
+array-read-width-of-4 : tie.Need-array-read-width-of-4
+array-read-width-of-4 c = search needs
+
+width-of-requires-2 : tie.Need-width-of-requires-2
+width-of-requires-2 c κs = search needs
+
+cast-size-of-2 : tie.Need-cast-size-of-2
+cast-size-of-2 c = let start = c .before .before .before .before .before .before .before .before .before in omega (arith, start .pre .1 .most)
+
+size-of-requires-2 : tie.Need-size-of-requires-2
+size-of-requires-2 c κs = let start = c .before .before .before .before .before .before .before .before .before in let known = c .before .before .before .before .before .before in let inside = c .before .before .before .before .before in let b : Fits w32 (getD (start .args .t2) 3 0) = search needs in (record { upto = omega arith; within = inside .if2 .left; size = omega arith }, width-known _ _ _ (c .before .kind-of .ensures) (c .width-of2 .ensures) (start .pre .0 _ (known .if1 .left)))
+
+returns-4 : tie.Need-returns-4
+returns-4 c = row-sized _ _ _ _ _ (c .before .before .before .before .before .before .before .if1 .left) (c .before .before .before .before .before .before .if2 .left) _ _ _ _ (c .before .before .kind-of .ensures) (c .before .width-of2 .ensures) refl (c .size-of2 .ensures .0) (c .size-of2 .ensures .1)
 
 pub row-size-spec : {M : Type 1} → statement M
 row-size-spec =
@@ -124,16 +121,23 @@ row-size-spec =
     returns-2
     mul-facility
     shared-slice-copy-out-facility
-    array-read-kind-of
-    kind-of-requires
-    array-read-width-of
-    array-read-width-of-2
-    width-of-requires
     mul-delta
     shared-slice-read-delta
     cast-delta
     sub-delta
     sub-delta-2
+    array-read-if3
+    array-read-width-of
+    array-read-width-of-2
+    width-of-requires
     cast-size-of
     size-of-requires
-    returns-3)
+    returns-3
+    array-read-kind-of
+    kind-of-requires
+    array-read-width-of-3
+    array-read-width-of-4
+    width-of-requires-2
+    cast-size-of-2
+    size-of-requires-2
+    returns-4)
