@@ -225,6 +225,7 @@ module _ (facilities : List (List ℕ)) (names : List ℕ) (changes : List (List
         let asked = tables-asked last two (put .table-long) two-long in
         tables-long facilities names last two p asked memory (z .entries) (firstOf changes) (finalOf changes)
 
+    -- and there is room for them, and for the header
     tables-room : p .names + length tables ≤ length two
     tables-room = let room = a .room p pf in let l = two-long in let e = tables-end in omega (arith, pf .timescale, pf .end, pf .length)
 

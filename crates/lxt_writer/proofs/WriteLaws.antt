@@ -186,6 +186,7 @@ module _ (rows changes : List (List ℕ)) (values last out : List ℕ) (position
           let l = and-both (changesAllowed (nameless rows) (getD (getD changes i []) 1 0) (map (changeOf values) rest)) _ s .1 in
           omega (arith, leb-true (endFrom rows values (o + length (step .bytes)) (pairOf step ∷ w .before) rest) longestFile l)
 
+      -- the columns up to the entry of the change, if it gets one
       entries-here : EntriesPut
           (positionsOf 0 (entriesOf whole))
           (timesOf 0 (entriesOf whole))
@@ -197,6 +198,7 @@ module _ (rows changes : List (List ℕ)) (values last out : List ℕ) (position
       unfolding whole
       entries-here = rw left-here at (w .entries)
 
+      -- where it lies, and its time
       step-at : step .offset ≡ o
       unfolding step layAt
       step-at = refl
@@ -205,6 +207,7 @@ module _ (rows changes : List (List ℕ)) (values last out : List ℕ) (position
       unfolding row step layAt changeOf
       step-time = refl
 
+      -- there is room for the columns still
       room-here : positions + gap + gap ≤ length out′
       room-here = omega (arith, a .room, w .long)
 
@@ -227,12 +230,14 @@ module _ (rows changes : List (List ℕ)) (values last out : List ℕ) (position
         put-here : EntryPut out′ e gap o (step .time) one e₁
         put-here = rw step-time put
 
+        -- the next change lies above the first
         above : 4 < o + length (step .bytes)
         above =
             let some = row-long rows (getD changes i []) values last′ (w .before) o (w .laying) (here-sound .1) in
             let b = ap length bytes-are in
             omega (arith, w .from)
 
+        -- what its entry leaves
         entry-done : Entered
             (positionsOf 0 (entriesOf whole))
             (timesOf 0 (entriesOf whole))
