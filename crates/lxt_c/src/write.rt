@@ -32,7 +32,9 @@ pub extern "C" fn lxt_write(
 ) -> u32
     ensures { λ r. ⌜ r ≡ numberOf (writeAsked (now (facilities .entry)) (now (names .entry)) (now (changes .entry)) (now (values .entry)) initial timescale (length (now (out .entry)))) ⌝ }
     ensures { λ _. ⌜ now (out .exit) ≡ writeBuffer (now (facilities .entry)) (now (names .entry)) (now (changes .entry)) (now (values .entry)) initial timescale (now (out .entry)) ⌝ }
-    ensures { λ _. ⌜ now (size .exit) ≡ oneNumber (writeAsked (now (facilities .entry)) (now (names .entry)) (now (changes .entry)) (now (values .entry)) initial timescale (length (now (out .entry)))) (now (size .entry)) ⌝ }
+    ensures { λ _. ⌜ now (size .exit) ≡ oneNumber
+        (writeAsked (now (facilities .entry)) (now (names .entry)) (now (changes .entry)) (now (values .entry)) initial timescale (length (now (out .entry))))
+        (now (size .entry)) ⌝ }
 {
     let a = lxt_writer::write(facilities, names, changes, values, initial, timescale, out);
     give_length(a, size)

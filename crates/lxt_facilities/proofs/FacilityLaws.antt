@@ -1,15 +1,14 @@
 -- Laws of the rows of the table of facilities: kinds and widths, and whether a row is allowed.
-use Prim.Native.Nat.{ℕ, suc, _+_, _≤_, _<_}
+use Prim.Native.Nat.{ℕ, _+_, _≤_, _<_}
 use native.Mathlib.Omega.{arith}
-use mathlib.Core.Path.{_≡_, refl, sym, _∙_}
-use mathlib.Core.Bool.{Bool, true, false, not, _&&_, and-assoc, and-true}
-use mathlib.Core.List.{List, [], _∷_}
+use mathlib.Core.Path.{_≡_, _∙_}
+use mathlib.Core.Bool.{Bool, true, false, not, _&&_}
+use mathlib.Core.List.{List}
 use lib.ListN.{length, getD}
-use lib.Seq.{slice, slice-cons, slice-empty, length-slice}
-use lib.Dec.{leb, eqb}
+use lib.Seq.{slice, length-slice}
+use lib.Dec.{leb}
 use borrow.Author.Tests.{le-leb, lt-leb, ne-eqb, not-true, not-false}
 use Rattle.lxt_format.specs.Limits.{longestName, widestFacility}
-use Rattle.lxt_format.specs.Basics.{all}
 use Rattle.lxt_format.specs.Geometry.{widthBetween, factsBy}
 use Rattle.lxt_format.specs.declared.Kind.{Kind}
 use Rattle.lxt_format.specs.declared.Kind.the-variants.{Bits, Integer, Real, Text}

@@ -195,25 +195,29 @@ measure-begun rows names =
       upto = omega arith;
     }
 
-module _ (rows : List (List ℕ)) (names : List ℕ) (f : ℕ) (h : f < length rows) where
-  -- row f and those after it
-  rows-next : drop f rows ≡ getD rows f [] ∷ drop (f + 1) rows
-  rows-next = let e : f + 1 ≡ suc f = omega arith in rw e (drop-cons rows f [] h)
+-- row f and those after it
+pub rows-next : (rows : List (List ℕ)) (f : ℕ) → f < length rows → drop f rows ≡ getD rows f [] ∷ drop (f + 1) rows
+rows-next rows f h = let e : f + 1 ≡ suc f = omega arith in rw e (drop-cons rows f [] h)
 
-  -- whether they are allowed
+-- none is left
+pub rows-none : (rows : List (List ℕ)) (f : ℕ) → f ≤ length rows → length rows ≤ f → drop f rows ≡ []
+rows-none rows f h k = let e : f ≡ length rows = omega arith in rw e (drop-length rows)
+
+module _ (rows : List (List ℕ)) (names : List ℕ) (f : ℕ) (h : f < length rows) where
+  -- whether row f and those after it are allowed
   allowed-next : facilitiesAllowed names (drop f rows) ≡ (rowAllowed names (getD rows f []) && facilitiesAllowed names (drop (f + 1) rows))
   unfolding facilitiesAllowed all
-  allowed-next = rw rows-next
+  allowed-next = rw (rows-next rows f h)
 
   -- their names
   names-next : namesIn names (drop f rows) ≡ part names (getD (getD rows f []) 0 0) (getD (getD rows f []) 1 0) ∷ namesIn names (drop (f + 1) rows)
   unfolding facilityOf
-  names-next = rw rows-next
+  names-next = rw (rows-next rows f h)
 
   -- whether one is a real
   real-next : anyReal names (drop f rows) ≡ (eqb (getD (getD rows f []) 2 0) 2 || anyReal names (drop (f + 1) rows))
   unfolding facilityOf any
-  real-next = rw (rows-next, code-is-real (getD (getD rows f []) 2 0))
+  real-next = rw (rows-next rows f h, code-is-real (getD (getD rows f []) 2 0))
 
 module _ {rows : List (List ℕ)} {names : List ℕ} {size memory : ℕ} {real : Bool} {before held f : ℕ} (w : Measuring rows names size memory real before held f) where
   module _ (h : f < length rows) {ok : Bool} (eo : ok ≡ rowAllowed names (getD rows f [])) where
@@ -270,8 +274,7 @@ module _ {rows : List (List ℕ)} {names : List ℕ} {size memory : ℕ} {real :
   pub measure-ended : length rows ≤ f → FacilitiesMeasured names rows (record { sound = true; size = size; memory = memory; real = real })
   unfolding facilitiesAllowed all any memoryOf namesFrom
   measure-ended h =
-      let e : f ≡ length rows = omega (arith, w .upto) in
-      let none : drop f rows ≡ [] = rw e (drop-length rows) in
+      let none = rows-none rows f (w .upto) h in
       let b : size + 0 ≡ length (namesFrom [] (namesIn names rows)) = rw none at (w .bytes) in
       let m : memory + 0 ≡ memoryOf (namesIn names rows) = rw none at (w .sum) in
       let r : (real || false) ≡ anyReal names rows = rw none at (w .reals) in
@@ -366,6 +369,5 @@ module _ {rows : List (List ℕ)} {names b : List ℕ} {at : ℕ} {b′ : List �
   pub names-ended : length rows ≤ f → b′ ≡ placed b at (namesFrom [] (namesIn names rows))
   unfolding namesFrom
   names-ended h =
-      let e : f ≡ length rows = omega (arith, w .upto) in
-      let none : drop f rows ≡ [] = rw e (drop-length rows) in
+      let none = rows-none rows f (w .upto) h in
       fill-ended b at (namesFrom [] (namesIn names rows)) b′ p (rw none at (w .filling))

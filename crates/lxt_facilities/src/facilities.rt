@@ -1,12 +1,10 @@
 // The rows of the table of facilities: what they mean, and whether they are allowed.
 ghost use mathlib.Core.Path.{_≡_};
 ghost use mathlib.Core.Bool.{_&&_};
-ghost use Prim.Native.Nat.{_+_, _≤_};
-ghost use lib.ListN.{length};
-ghost use lib.Seq.{slice};
+ghost use Prim.Native.Nat.{_+_};
 ghost use Rattle.lxt_format.specs.Geometry.{factsBy};
 ghost use Rattle.lxt_written.specs.Input.{kindOfCode, facilityOf, facilityRowAllowed};
-ghost use Rattle.lxt_written.specs.Writing.{noZero, facilityAllowed};
+ghost use Rattle.lxt_written.specs.Writing.{facilityAllowed};
 use lxt_format::Facts;
 use lxt_format::Kind;
 use lxt_format::NameCursor;

@@ -15,6 +15,7 @@ use crate::facilities::MSB;
 use lxt_format::Kind;
 use lxt_pack::put;
 
+// The flags of a kind, and msb and lsb, which only bits have of their own.
 fn flags_of(kind: Kind) -> u32
     ensures { λ r. ⌜ r ≡ flagsFor kind ⌝ }
 {

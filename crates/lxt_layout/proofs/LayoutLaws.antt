@@ -4,7 +4,7 @@ use native.Mathlib.Nat.{add-zero}
 use native.Mathlib.Numerals.{add-one}
 use native.Mathlib.Omega.{arith}
 use mathlib.Core.Path.{_≡_, refl, sym, ap, _∙_}
-use mathlib.Core.Bool.{Bool, true, false, _&&_}
+use mathlib.Core.Bool.{Bool, true, false, _&&_, true≢false}
 use mathlib.Core.List.{List, [], _∷_, _++_}
 use lib.ListN.{length, getD, take, drop, drop-of-length-le}
 use lib.Seq.{drop-cons, length-take-le}
@@ -36,11 +36,13 @@ put-then b c d at k t u e h first second = second ∙ rw (first, ← e) (placed-
 
 -- ---- the header, and the heads of the names and of the times
 
+-- the header is one word
 pub header-put : (b c : List ℕ) → c ≡ placed b 0 (bigEndian 4 0x01380004) → c ≡ placed b 0 header
 unfolding bigEndian
 header-put b c h = h
 
 module _ (b c d : List ℕ) (at x y : ℕ) (first : c ≡ placed b at (bigEndian 4 x)) (second : d ≡ placed c (at + 4) (bigEndian 4 y)) where
+  -- two words, and three
   pub two-put : at + 8 ≤ length b → d ≡ placed b at (words (x ∷ y ∷ []))
   unfolding joined bigEndian
   two-put h = put-then b c d at 4 (bigEndian 4 x) (bigEndian 4 y) refl (omega arith) first second
@@ -59,6 +61,7 @@ within-scale (negsuc k) =
     on-test (leb k 20) (λ e. (let h = leb-true k 20 e in simp (e, le-leb (k + 1) 21 (omega arith))))
     (λ e. (let h = leb-false k 20 e in simp (e, lt-leb (k + 1) 21 (omega arith))))
 
+-- of a number that fits a byte, as the code has it
 pub scale-allowed : (z : ℤ) → SFits w8 z → (leZ (negsuc 20) (toZ w8 (ofZ w8 z)) && leZ (toZ w8 (ofZ w8 z)) (pos 2)) ≡ timescaleAllowed z
 scale-allowed z f = rw (toZ-ofZ w8 z f) (within-scale z)
 
@@ -81,16 +84,18 @@ below-zero (negsuc k) f h =
 pub from-zero : (z : ℤ) → SFits w8 z → ltZ (toZ w8 (ofZ w8 z)) (pos 0) ≡ false → Half z (toZ w8 (ofZ w8 z)) (λ n. n)
 unfolding signedByte
 from-zero (pos k) f h = let l : k < 128 = f .sfits in rw (lt-ltb k 128 l) (record { sign = tt; small = l; gives = refl })
-from-zero (negsuc k) f h = let e = rw (toZ-ofZ w8 (negsuc k) f) at h in let z : _≡_ {A = ℕ} 0 1 = cc in absurd (omega arith)
+from-zero (negsuc k) f h = absurd (true≢false (rw (toZ-ofZ w8 (negsuc k) f) at h))
 
 -- ---- the sections of one value
 
+-- the real test, of two words
 pub test-put : (b c d : List ℕ) (at : ℕ) → at + 8 ≤ length b
     → c ≡ placed b at (bigEndian 4 0x6E861BF0) → d ≡ placed c (at + 4) (bigEndian 4 0xF9210940) → d ≡ placed b at testPattern
 unfolding bigEndian
 test-put b c d at h first second = put-then b c d at 4 (bigEndian 4 0x6E861BF0) (bigEndian 4 0xF9210940) refl (omega arith) first second
 
 module _ (z : ℤ) (f : SFits w8 z) where
+  -- timescale and initial symbol
   pub pair-put : (b c d : List ℕ) (at x y : ℕ) → at + 2 ≤ length b → x < 256 → y < 256 → x ≡ signedByte (toZ w8 (ofZ w8 z))
       → c ≡ placed b at (bigEndian 1 x) → d ≡ placed c (at + 1) (bigEndian 1 y) → d ≡ placed b at (signedByte z ∷ y ∷ [])
   pair-put b c d at x y h l m e first second =
@@ -101,6 +106,7 @@ module _ (z : ℤ) (f : SFits w8 z) where
     pair-is : c ≡ placed b at (signedByte z ∷ initial ∷ [])
     pair-is = first ∙ ap (λ n. placed b at (signedByte n ∷ initial ∷ [])) (toZ-ofZ w8 z f)
 
+    -- with the real test behind them, and without
     pub values-test : (d : List ℕ) → at + 2 + (if real then 8 else 0) ≤ length b → real ≡ true → d ≡ placed c (at + 2) testPattern
         → d ≡ placed b at (valuesSection z initial real)
     unfolding valuesSection
@@ -112,6 +118,7 @@ module _ (z : ℤ) (f : SFits w8 z) where
 
 -- ---- the section list
 
+-- one item: its value and its tag
 pub item-put : (b c d : List ℕ) (at v tag : ℕ) → at + 5 ≤ length b → tag < 256
     → c ≡ placed b at (bigEndian 4 v) → d ≡ placed c (at + 4) (bigEndian 1 tag) → d ≡ placed b at (itemsFrom tag (v ∷ []))
 unfolding itemsFrom
@@ -137,10 +144,12 @@ pub record Listing (b : List ℕ) (at : ℕ) (vs b′ : List ℕ) (i : ℕ) : Ty
   pub room : at + 5 * length vs ≤ length b
   pub long : length b′ ≡ length b
 
+-- none is put yet
 pub list-begun : (b : List ℕ) (at : ℕ) (vs : List ℕ) → at + 5 * length vs ≤ length b → length vs ≤ 8 → Listing b at vs b 0
 list-begun b at vs r h = record { left = rw (add-zero at); upto = omega arith; few = h; room = r; long = refl }
 
 module _ (b : List ℕ) (at : ℕ) (vs b′ : List ℕ) (i : ℕ) (w : Listing b at vs b′ i) where
+  -- one more is put
   pub list-turn : (c : List ℕ) → i < length vs → c ≡ placed b′ (at + 5 * i) (itemsFrom (i + 1) (getD vs i 0 ∷ [])) → Listing b at vs c (i + 1)
   list-turn c h e =
       let l = w .long in
@@ -160,6 +169,7 @@ module _ (b : List ℕ) (at : ℕ) (vs b′ : List ℕ) (i : ℕ) (w : Listing b
         long = rw e (length-placed b′ (at + 5 * i) item room ∙ w .long);
       }
 
+  -- all are put
   pub list-ended : length vs ≤ i → b′ ≡ placed b at (itemsFrom 1 vs)
   list-ended h =
       let none : itemsFrom (i + 1) (drop i vs) ≡ [] = unfold itemsFrom in rw (drop-of-length-le vs h) in
@@ -194,21 +204,25 @@ module _ (p : Places) where
   values-long n h = sym (length-take-le n (eight p) h)
 
   module _ (b : List ℕ) (at : ℕ) (real : Bool) (n : ℕ) (e : n ≡ (if real then 8 else 7)) (few : n ≤ 8) where
+    -- there is room for them
     pub list-room : at + (if real then 40 else 35) ≤ length b → (at + 5 * length (take n (eight p)) ≤ length b) × (length (take n (eight p)) ≤ 8)
     list-room h =
         let l = values-long n few in
         let f = five-each real n e in
         (omega arith, omega arith)
 
+    -- they are the list
     pub list-put : (c : List ℕ) → c ≡ placed b at (itemsFrom 1 (take n (eight p))) → c ≡ placed b at (itemsFrom 1 (itemValues p real))
     list-put c h = rw (← values-taken real n e) h
 
   -- ---- END, the list and the last byte
 
   module _ (b : List ℕ) (real : Bool) (n : ℕ) (e : n ≡ (if real then 8 else 7)) (room : p .end + (if real then 42 else 37) ≤ length b) where
+    -- there is room for the list and for the last byte
     pub tail-room : (p .end + 1 + (if real then 40 else 35) ≤ length b) × (p .end + 1 + 5 * n + 1 ≤ length b)
     tail-room = let f = five-each real n e in (omega arith, omega arith)
 
+    -- they are put one after the other
     pub tail-put : (c d f : List ℕ) → c ≡ placed b (p .end) (bigEndian 1 0) → d ≡ placed c (p .end + 1) (itemsFrom 1 (itemValues p real))
         → f ≡ placed d (p .end + 1 + 5 * n) (bigEndian 1 0xB4) → f ≡ placed b (p .end) (tailOf p real)
     unfolding tailOf

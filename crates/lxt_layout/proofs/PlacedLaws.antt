@@ -12,6 +12,7 @@ use Rattle.lxt_format.specs.Columns.{onto}
 use Rattle.lxt_written.specs.Stands.{Stands, stands-slice}
 
 module _ (b : List ℕ) (at : ℕ) (t : List ℕ) (room : at + length t ≤ length b) where
+  -- what lies below the text
   front-long : length (take at b) ≡ at
   front-long = length-take-le at b (omega arith)
 
@@ -73,7 +74,8 @@ placed-above b at t o x h from = let w = h .within in stay-above b at t (omega a
 -- ---- bytes that stand one after the other
 
 module _ (s : List ℕ) (o : ℕ) (xs ys : List ℕ) (h : Stands s o xs) where
-  pub stands-join : Stands s (o + length xs) ys → Stands s o (xs ++ ys)
+  -- the second behind the first
+  stands-join : Stands s (o + length xs) ys → Stands s o (xs ++ ys)
   stands-join k =
       let e = length-append xs ys in
       let w = k .within in

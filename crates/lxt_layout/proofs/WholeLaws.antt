@@ -52,7 +52,7 @@ tail-asks z p b k q h = (omega arith, length-small z p k q, below-of z p q)
 
 -- ---- the lengths of the small parts
 
-values-long : (scale : ℤ) (initial : ℕ) (real : Bool) → length (valuesSection scale initial real) ≡ 2 + (if real then 8 else 0)
+pub values-long : (scale : ℤ) (initial : ℕ) (real : Bool) → length (valuesSection scale initial real) ≡ 2 + (if real then 8 else 0)
 unfolding valuesSection
 values-long scale initial true = refl
 values-long scale initial false = refl
@@ -122,7 +122,7 @@ module _ (t : Trace) (z : Sizes) (p : Places) (m : Measures t z) (q : PlacesFor 
       (λ e. rw (e, s .no-test e) (unfold itemBytes itemsFrom in refl)))
 
   -- the list has the places, of which none is 0
-  pub list-is : listBytes (placesOf t) ≡ itemsFrom 0x01 (itemValues p (z .real))
+  list-is : listBytes (placesOf t) ≡ itemsFrom 0x01 (itemValues p (z .real))
   unfolding listBytes joined range itemValues
   list-is =
       let s = starts-are t in
@@ -143,18 +143,20 @@ module _ (t : Trace) (z : Sizes) (p : Places) (m : Measures t z) (q : PlacesFor 
       (item-next 0x07 (p .timescale + 1) _ _ (omega arith) last-item)))))))
 
   -- so END, the list and the last byte are the tail of the places
-  pub tail-is : 0x00 ∷ (listBytes (placesOf t) ++ (0xB4 ∷ [])) ≡ tailOf p (z .real)
+  tail-is : 0x00 ∷ (listBytes (placesOf t) ++ (0xB4 ∷ [])) ≡ tailOf p (z .real)
   unfolding tailOf
   tail-is = rw list-is
 
   -- ---- the whole file
 
+  -- its parts, one after the other
   file-is : fileOf t ≡ header ++ (changesBytes t ++ (namesBody t ++ (geometryBody t ++ (syncBody t ++ (timesBody t ++ (valuesPart ++ tailPart))))))
   unfolding fileOf
   file-is =
       let values : signedByte (t .timescale) ∷ t .initial ∷ testBody t ≡ valuesPart = unfold valuesSection in rw (m .real) in
       rw (tail-is, sections-are t, values, regroup (namesBody t) (geometryBody t) (syncBody t) (timesBody t) valuesPart tailPart)
 
+  -- it is as long as the places say
   pub file-long : p .length ≡ length (fileOf t)
   file-long =
       let f = follows in
@@ -175,6 +177,7 @@ module _ (t : Trace) (z : Sizes) (p : Places) (m : Measures t z) (q : PlacesFor 
           )
 
   module _ (s : List ℕ) (h : Parts t z p s) where
+    -- the tables of more than one part
     names-stand : Stands s (p .names) (namesBody t)
     unfolding namesBody
     names-stand =
@@ -189,7 +192,8 @@ module _ (t : Trace) (z : Sizes) (p : Places) (m : Measures t z) (q : PlacesFor 
         omega (arith, m .entries, length-deltas 0 (map (λ l. l .offset) entries), length-map entries (λ l. l .offset)) in
         two-columns s (p .times) 12 (z .entries) _ _ _ (h .times-head) (h .positions) (h .times) refl rows
 
-    pub file-stands : Stands s 0 (fileOf t)
+    -- the file stands at the start
+    file-stands : Stands s 0 (fileOf t)
     file-stands =
         let f = follows in
         let values = stands-join-at s (p .timescale) valuesPart tailPart (h .values) (p .end) (f .end) (h .tail) in

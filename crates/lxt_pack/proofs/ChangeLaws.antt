@@ -20,7 +20,7 @@ use Rattle.lxt_written.specs.Stands.{length-bigEndian}
 use Rattle.lxt_written.specs.WrittenChanges.{bigEndian, codeOf, canHold, commandFor, pack, packedSymbols, dataFor, fewestBytes, changeBytes}
 use Rattle.lxt_written.specs.Writing.{isSymbol, isBit, valueAllowed}
 use Rattle.lxt_written.specs.CommandLaws.{code-small, length-change, length-packed, value-symbols, value-length, command-bound, command-holds, held-codes}
-use Rattle.lxt_pack.specs.Symbols.{Chosen, Size, Holding, Packing}
+use Rattle.lxt_pack.specs.Symbols.{Size, Holding, Packing}
 use Rattle.lxt_pack.specs.Change.{Part, WidthFor, headOf, Scales, HeadAsked, Held, Sound, Puts}
 use Rattle.lxt_pack.proofs.PutLaws.{stored-two, stored-three, stored-four}
 use Rattle.lxt_pack.proofs.SizeLaws.{one-small, two-small, bits-symbols, integer-command}
@@ -183,25 +183,21 @@ module _ (v : List ℕ) (start end delta : ℕ) (out : List ℕ) (at : ℕ) (s :
   bits-width : end - start ≡ s .width
   bits-width = sym (length-slice start end v (s .part .within)) ∙ value-length Bits (s .width) (slice start end v) refl (s .allowed)
 
-  pub bits-some : (start < end) × (end ≤ length v)
-  bits-some = let e = bits-width in (omega (arith, s .wide .0), s .part .within)
+  pub bits-some : (start < end) × (end ≤ length v) × (all isSymbol (slice start end v) ≡ true)
+  bits-some = let e = bits-width in (omega (arith, s .wide .0), s .part .within, value-symbols Bits (s .width) (slice start end v) refl (s .allowed))
 
-  -- the command that was chosen is the one that is written
-  pub bits-command-is : (c : ℕ) → Chosen (slice start end v) c → c ≡ commandFor Bits (slice start end v)
-  bits-command-is c h = h .command ∙ rw (value-symbols Bits (s .width) (slice start end v) refl (s .allowed))
-
-  pub bits-head : (c : ℕ) → Chosen (slice start end v) c → HeadAsked c delta out at
+  pub bits-head : (c : ℕ) → c ≡ commandFor Bits (slice start end v) → HeadAsked c delta out at
   bits-head c h =
-      let e = bits-command-is c h in
+      let e = h in
       let b = command-bound Bits (slice start end v) in
       record { command-small = omega arith; delta-small = s .delta-small; room = s .spare }
 
-  data-long : (c : ℕ) → Chosen (slice start end v) c → packedSize (symbolSize c) (end - start) ≡ length (dataFor Bits (slice start end v))
+  data-long : (c : ℕ) → c ≡ commandFor Bits (slice start end v) → packedSize (symbolSize c) (end - start) ≡ length (dataFor Bits (slice start end v))
   unfolding dataFor
   data-long c h =
-      rw (bits-command-is c h) (sym (length-packed (commandFor Bits (slice start end v)) (slice start end v) ∙ rw (length-slice start end v (s .part .within))))
+      rw h (sym (length-packed (commandFor Bits (slice start end v)) (slice start end v) ∙ rw (length-slice start end v (s .part .within))))
 
-  pub bits-held : (c d : ℕ) (one : List ℕ) → Chosen (slice start end v) c → d ≡ at + (1 + fewestBytes delta) → one ≡ placed out at (headOf c delta)
+  pub bits-held : (c d : ℕ) (one : List ℕ) → c ≡ commandFor Bits (slice start end v) → d ≡ at + (1 + fewestBytes delta) → one ≡ placed out at (headOf c delta)
       → Held v start end c one d
   bits-held c d one h e first =
       let l = head-kept Bits v start end delta out at s one c first in
@@ -213,17 +209,17 @@ module _ (v : List ℕ) (start end delta : ℕ) (out : List ℕ) (at : ℕ) (s :
         within = s .part .within;
         most = omega (arith, s .wide .1);
         symbols = value-symbols Bits (s .width) (slice start end v) refl (s .allowed);
-        holds = rw (bits-command-is c h) (command-holds Bits (s .width) (slice start end v) refl (s .allowed));
+        holds = rw h (command-holds Bits (s .width) (slice start end v) refl (s .allowed));
         room = omega arith;
       }
 
-  pub bits-put : (c d r : ℕ) (one two : List ℕ) → Chosen (slice start end v) c → one ≡ placed out at (headOf c delta) → d ≡ at + (1 + fewestBytes delta)
+  pub bits-put : (c d r : ℕ) (one two : List ℕ) → c ≡ commandFor Bits (slice start end v) → one ≡ placed out at (headOf c delta) → d ≡ at + (1 + fewestBytes delta)
       → two ≡ placed one d (packedSymbols c (slice start end v)) → r ≡ d + packedSize (symbolSize c) (end - start)
       → Puts Bits (slice start end v) delta out at two r
   unfolding dataFor
   bits-put c d r one two h first e second last =
       record {
-        puts = change-put Bits v start end delta out at s one two c d (packedSymbols c (slice start end v)) (bits-command-is c h) (rw (bits-command-is c h)) first e second;
+        puts = change-put Bits v start end delta out at s one two c d (packedSymbols c (slice start end v)) h (rw h) first e second;
         ends = change-ends Bits v start end delta out at s r (packedSize (symbolSize c) (end - start)) (data-long c h) (omega arith);
       }
 

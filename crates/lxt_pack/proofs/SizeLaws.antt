@@ -21,7 +21,8 @@ use Rattle.lxt_format.specs.declared.Kind.the-variants.{Bits, Integer, Real, Te
 use Rattle.lxt_written.specs.WrittenChanges.{codeOf, canHold, commandFor, packedSymbols, dataFor, fewestBytes}
 use Rattle.lxt_written.specs.Writing.{noZero, isSymbol, isBit, valueAllowed}
 use Rattle.lxt_written.specs.CommandLaws.{length-packed, value-symbols, integer-codes, command-one, command-0, bit-symbol, bit-code, command-bound, command-holds, held-one, held-codes, no-data}
-use Rattle.lxt_pack.specs.Symbols.{Chosen}
+use Rattle.lxt_pack.specs.Symbols.{allBelow, sameAll, Chosen}
+use Rattle.lxt_pack.proofs.SymbolLaws.{bit-is}
 use Rattle.lxt_pack.specs.Change.{Part, WidthFor, notAllowed, sizeFor, Sizes, Scales}
 
 -- ---- deltas
@@ -134,40 +135,22 @@ packed-by b c width r e h = rw (← e) h
 
 -- ---- the command of an integer
 
--- a byte whose code is 0 or 1 is a bit
-low-bit : (b : ℕ) → codeOf b < 2 → isBit b ≡ true
-unfolding codeOf placeOf isBit any
-low-bit b h =
-    elim (ℕ-discrete b 0x30) [
-      | yes e ↦ rw (eq-eqb b 0x30 e)
-      | no n ↦ elim (ℕ-discrete b 0x31) [
-        | yes e ↦ rw (ne-eqb b 0x30 n, eq-eqb b 0x31 e)
-        | no m ↦ absurd (high b n m h)
-      ]
-    ]
+-- bits are the symbols 0 and 1
+bits-below : (l : List ℕ) → all isBit l ≡ allBelow 2 l
+unfolding all allBelow isBit any
+bits-below [] = refl
+bits-below (x ∷ l) = rw (flat (eqb x 0x30) (eqb x 0x31) ∙ bit-is x, bits-below l)
   where
-    high : (b : ℕ) → (b ≡ 0x30 → ⊥) → (b ≡ 0x31 → ⊥) → codeOf b < 2 → ⊥
-    high b n m h = let h′ = rw (ne-eqb 0x30 b (λ e. n (sym e)), ne-eqb 0x31 b (λ e. m (sym e))) at h in omega arith
-
-all-bits : (l : List ℕ) → all (λ x. ltb (codeOf x) 2) l ≡ true → all isBit l ≡ true
-unfolding all
-all-bits [] h = refl
-all-bits (x ∷ l) h =
-    let b = and-both (ltb (codeOf x) 2) (all (λ x. ltb (codeOf x) 2) l) h in
-    both-and (isBit x) (all isBit l) (low-bit x (ltb-true (codeOf x) 2 (b .0))) (all-bits l (b .1))
+    flat : (a b : Bool) → (a || (b || false)) ≡ (a || b)
+    flat true b = refl
+    flat false true = refl
+    flat false false = refl
 
 pub bits-symbols : (l : List ℕ) → all isBit l ≡ true → all isSymbol l ≡ true
 unfolding all
 bits-symbols [] h = refl
 bits-symbols (x ∷ l) h =
     let b = and-both (isBit x) (all isBit l) h in both-and (isSymbol x) (all isSymbol l) (bit-symbol x (b .0)) (bits-symbols l (b .1))
-
-all-one : (b : ℕ) (l : List ℕ) → isBit b ≡ true → all (λ x. eqb x b) l ≡ true → all isBit l ≡ true
-unfolding all
-all-one b [] i h = refl
-all-one b (x ∷ l) i h =
-    let both = and-both (eqb x b) (all (λ x. eqb x b) l) h in
-    both-and (isBit x) (all isBit l) (rw (eqb-true x b (both .0)) i) (all-one b l i (both .1))
 
 module _ (value : List ℕ) (some : 1 ≤ length value) where
   as-bits : (symbols : all isSymbol value ≡ true) → valueAllowed Bits (length value) value ≡ true
@@ -187,46 +170,6 @@ module _ (value : List ℕ) (some : 1 ≤ length value) where
       on-test (all (λ x. eqb x (getD value 0 0)) value)
       (λ e. command-one Integer (length value) value refl i (getD value 0 0) some e ∙ sym (command-one Bits (length value) value refl b (getD value 0 0) some e))
       (λ e. command-0 Integer (length value) value refl i e codes ∙ sym (command-0 Bits (length value) value refl b e codes))
-
-  -- bits have the commands 0, 3 and 4
-  pub bits-command : all isBit value ≡ true → (commandFor Bits value ≡ 0 → ⊥) → (commandFor Bits value ≡ 3 → ⊥) → (commandFor Bits value ≡ 4 → ⊥) → ⊥
-  bits-command h a c d =
-      let b = as-bits (bits-symbols value h) in
-      let codes = integer-codes (length value) value (as-integer h) in
-      on-test (all (λ x. eqb x (getD value 0 0)) value)
-      (λ e.
-      let one = command-one Bits (length value) value refl b (getD value 0 0) some e in
-      let low = bit-code (getD value 0 0) (first-of value some h) in
-      seven (codeOf (getD value 0 0)) low one c d)
-      (λ e. a (command-0 Bits (length value) value refl b e codes))
-    where
-      first-of : (l : List ℕ) → 1 ≤ length l → all isBit l ≡ true → isBit (getD l 0 0) ≡ true
-      first-of [] n h = absurd (omega arith)
-      first-of (x ∷ l) n h = and-both (isBit x) (all isBit l) (unfold all in h) .0
-
-      seven : (k : ℕ) → k < 2 → commandFor Bits value ≡ 3 + k → (commandFor Bits value ≡ 3 → ⊥) → (commandFor Bits value ≡ 4 → ⊥) → ⊥
-      seven zero l e c d = c e
-      seven (suc zero) l e c d = d e
-      seven (suc (suc k)) l e c d = omega arith
-
-  -- and only they
-  pub command-bits : all isSymbol value ≡ true → (c : ℕ) → c ≡ commandFor Bits value → c ≡ 0 → all isBit value ≡ true
-  unfolding symbolSize
-  command-bits h c e z =
-      let holds : canHold Bits value 0 ≡ true = rw (← z, e) (command-holds Bits (length value) value refl (as-bits h)) in
-      all-bits value (held-codes Bits value 0 (lit< tt) holds)
-
-  pub command-one-bits : all isSymbol value ≡ true → (c k : ℕ) → c ≡ commandFor Bits value → c ≡ 3 + k → k < 2 → all isBit value ≡ true
-  unfolding isBit any symbolOf
-  command-one-bits h c k e z l =
-      let holds : canHold Bits value (3 + k) ≡ true = rw (← z, e) (command-holds Bits (length value) value refl (as-bits h)) in
-      let one = held-one Bits value (3 + k) (omega arith) holds in
-      low-symbol k l one
-    where
-      low-symbol : (k : ℕ) → k < 2 → all (λ x. eqb x (symbolOf (3 + k - 3))) value ≡ true → all isBit value ≡ true
-      low-symbol zero l h = all-one (symbolOf 0) value refl h
-      low-symbol (suc zero) l h = all-one (symbolOf 1) value refl h
-      low-symbol (suc (suc k)) l h = absurd (omega arith)
 
 -- ---- values
 
@@ -277,53 +220,41 @@ module _ (v : List ℕ) (start end : ℕ) (p : Part v start end) where
   unfolding valueAllowed
   integer-long n = sym (size-refused Integer 32 (slice start end v) (rw (part-long, ne-eqb (end - start) 32 n)))
 
-  module _ (c : ℕ) (e : end - start ≡ 32) (h : Chosen (slice start end v) c) where
+  module _ (e : end - start ≡ 32) where
     some : 1 ≤ length (slice start end v)
     some = let l = part-long in omega arith
 
-    chosen-symbols : (c ≡ 16 → ⊥) → (all isSymbol (slice start end v) ≡ true) × (c ≡ commandFor Bits (slice start end v))
-    chosen-symbols n =
-        let value : List ℕ = slice start end v in
-        let yes : all isSymbol value ≡ true = on-test (all isSymbol value) (λ y. y) (λ y. absurd (n (h .command ∙ rw y))) in
-        (yes, h .command ∙ rw yes)
-
     -- bits under their command
-    integer-size : all isBit (slice start end v) ≡ true → c ≡ commandFor Bits (slice start end v) → sizeFor Integer 32 (slice start end v) ≡ packedSize (symbolSize c) 32
+    integer-size : all isBit (slice start end v) ≡ true → (c : ℕ) → commandFor Integer (slice start end v) ≡ c → packedSize (symbolSize c) 32 ≡ sizeFor Integer 32 (slice start end v)
     unfolding valueAllowed dataFor
-    integer-size bits q =
+    integer-size bits c q =
         let value : List ℕ = slice start end v in
         let allowed : valueAllowed Integer 32 value ≡ true = rw (part-long, eq-eqb (end - start) 32 e, bits) in
-        size-given Integer 32 value allowed
-        ∙ length-packed (commandFor Integer value) value
-        ∙ rw (integer-command value some bits, ← q, part-long, e)
+        sym (size-given Integer 32 value allowed ∙ length-packed (commandFor Integer value) value ∙ rw (q, part-long, e))
 
-    pub integer-0 : c ≡ 0 → 4 ≡ sizeFor Integer 32 (slice start end v)
-    unfolding symbolSize packedSize
-    integer-0 z =
-        let value : List ℕ = slice start end v in
-        let y = chosen-symbols (λ n. omega arith) in
-        let s = integer-size (command-bits value some (y .0) c (y .1) z) (y .1) in
-        sym (s ∙ rw z)
-
-    pub integer-one : (k : ℕ) → c ≡ 3 + k → k < 2 → 0 ≡ sizeFor Integer 32 (slice start end v)
-    unfolding packedSize
-    integer-one k z l =
-        let value : List ℕ = slice start end v in
-        let y = chosen-symbols (λ n. omega arith) in
-        let s = integer-size (command-one-bits value some (y .0) c k (y .1) z l) (y .1) in
-        sym (s ∙ rw (no-data c (omega arith)))
-
-    pub integer-none : (c ≡ 0 → ⊥) → (c ≡ 3 → ⊥) → (c ≡ 4 → ⊥) → notAllowed ≡ sizeFor Integer 32 (slice start end v)
+    pub integer-none : allBelow 2 (slice start end v) ≡ false → notAllowed ≡ sizeFor Integer 32 (slice start end v)
     unfolding valueAllowed
-    integer-none a b d =
+    integer-none n =
         let value : List ℕ = slice start end v in
-        let no : all isBit value ≡ false =
-        on-test (all isBit value)
-        (λ y.
-        let q : c ≡ commandFor Bits value = h .command ∙ rw (bits-symbols value y) in
-        absurd (bits-command value some y (λ z. a (q ∙ z)) (λ z. b (q ∙ z)) (λ z. d (q ∙ z))))
-        (λ y. y) in
-        sym (size-refused Integer 32 value (rw (part-long, eq-eqb (end - start) 32 e, no)))
+        sym (size-refused Integer 32 value (rw (part-long, eq-eqb (end - start) 32 e, bits-below value ∙ n)))
+
+    module _ (bits : allBelow 2 (slice start end v) ≡ true) where
+      are-bits : all isBit (slice start end v) ≡ true
+      are-bits = bits-below (slice start end v) ∙ bits
+
+      pub integer-same : sameAll (slice start end v) ≡ true → 0 ≡ sizeFor Integer 32 (slice start end v)
+      unfolding sameAll packedSize
+      integer-same s =
+          let value : List ℕ = slice start end v in
+          let c = command-one Integer (length value) value refl (as-integer value some are-bits) (getD value 0 0) some s in
+          rw (no-data (3 + codeOf (getD value 0 0)) (omega arith)) at (integer-size are-bits (3 + codeOf (getD value 0 0)) c)
+
+      pub integer-mixed : sameAll (slice start end v) ≡ false → 4 ≡ sizeFor Integer 32 (slice start end v)
+      unfolding sameAll symbolSize packedSize
+      integer-mixed s =
+          let value : List ℕ = slice start end v in
+          let i = as-integer value some are-bits in
+          integer-size are-bits 0 (command-0 Integer (length value) value refl i s (integer-codes (length value) value i))
 
   -- ---- reals
 

@@ -16,7 +16,7 @@ use Rattle.lxt_format.specs.Values.{symbols}
 use Rattle.lxt_format.specs.declared.Kind.the-variants.{Bits}
 use Rattle.lxt_written.specs.WrittenChanges.{codeOf, commandFor}
 use Rattle.lxt_written.specs.Writing.{isSymbol, valueAllowed}
-use Rattle.lxt_written.specs.CommandLaws.{command-one, command-0, command-1, command-2, command-bound}
+use Rattle.lxt_written.specs.CommandLaws.{code-small, command-one, command-0, command-1, command-2, command-bound}
 use Rattle.lxt_pack.specs.Symbols.{allBelow, sameAll, Coded, OneCommand, Chosen}
 
 -- ---- one byte
@@ -242,3 +242,24 @@ chosen-four value s l h = choose-1 value (below-more 4 9 (omega arith) value h) 
 
 pub chosen-nine : (value : List ℕ) → sameAll value ≡ false → allBelow 2 value ≡ false → allBelow 4 value ≡ false → allBelow 9 value ≡ true → Chosen value 2
 chosen-nine value s l f h = choose-2 value h s l f
+
+-- of symbols, the command that was chosen is the one that is written
+module _ (value : List ℕ) (symbols-are : all isSymbol value ≡ true) where
+  pub chosen-is : (c : ℕ) → Chosen value c → c ≡ commandFor Bits value
+  chosen-is c h = h .command ∙ rw symbols-are
+
+  nine : allBelow 9 value ≡ true
+  nine = sym (symbols-codes value) ∙ symbols-are
+
+  pub same-is : sameAll value ≡ true → 1 ≤ length value → (symbol code : ℕ) → symbol ≡ getD value 0 0 → Coded symbol 9 code → 3 + code ≡ commandFor Bits value
+  same-is s n symbol code e c =
+      let small : codeOf symbol < 9 = rw e (code-small _ (first-symbol value n symbols-are)) in
+      let q : code ≡ codeOf (getD value 0 0) = c small ∙ rw e in
+      chosen-is (3 + code) (rw q (choose-same value nine s n))
+    where
+      first-symbol : (l : List ℕ) → 1 ≤ length l → all isSymbol l ≡ true → isSymbol (getD l 0 0) ≡ true
+      first-symbol [] n h = absurd (omega arith)
+      first-symbol (x ∷ l) n h = and-both (isSymbol x) (all isSymbol l) (unfold all in h) .0
+
+  pub rest-is : sameAll value ≡ false → allBelow 2 value ≡ false → allBelow 4 value ≡ false → 2 ≡ commandFor Bits value
+  rest-is s l f = chosen-is 2 (choose-2 value nine s l f)

@@ -75,7 +75,7 @@ fn bits_size(width: u64, values: &[u8], start: usize, end: usize) -> usize
     packed_size(symbol_size(c), size)
 }
 
-// The bytes of the data of an integer: 32 symbols under the commands 0, 3 and 4.
+// The bytes of the data of an integer: 32 symbols 0 or 1.
 fn integer_size(values: &[u8], start: usize, end: usize) -> usize
     requires { ⌜ Part (now values) start end ⌝ }
     ensures { λ r. ⌜ Sizes Integer 32 (slice start end (now (values .entry))) r ⌝ }
@@ -83,15 +83,12 @@ fn integer_size(values: &[u8], start: usize, end: usize) -> usize
     if end - start != 32 {
         return NONE;
     }
-    let c = symbols::command(values, start, end);
-    if c == 0 {
+    let seen = symbols::look(values, start, end);
+    if seen.bits {
+        if seen.same {
+            return 0;
+        }
         return 4;
-    }
-    if c == 3 {
-        return 0;
-    }
-    if c == 4 {
-        return 0;
     }
     NONE
 }
@@ -205,7 +202,7 @@ fn put_bits(values: &[u8], start: usize, end: usize, delta: u32, out: &mut [u8],
     requires { ⌜ Sound Bits (now values) start end delta (now out) at ⌝ }
     ensures { λ r. ⌜ Puts Bits (slice start end (now (values .entry))) delta (now (out .entry)) at (now (out .exit)) r ⌝ }
 {
-    let command = symbols::command(values, start, end);
+    let command = symbols::command_of_symbols(values, start, end);
     let data = put_head(command, delta, out, at);
     put_symbols(values, start, end, command, out, data)
 }

@@ -1,14 +1,17 @@
 // The symbols of a value: their codes, the command that holds them, and their packing.
 ghost use mathlib.Core.Path.{_≡_};
+ghost use mathlib.Core.Bool.{true};
 ghost use mathlib.Core.List.{map};
 ghost use Prim.Native.Nat.{_+_, _-_, _≤_, _<_, _/_, _^_};
 ghost use lib.ListN.{length, getD};
 ghost use lib.Seq.{slice};
 ghost use lib.Dec.{ltb};
-ghost use Rattle.lxt_format.specs.Basics.{if_then_else_};
+ghost use Rattle.lxt_format.specs.Basics.{if_then_else_, all};
 ghost use Rattle.lxt_format.specs.Buffers.{placed};
 ghost use Rattle.lxt_format.specs.Changes.{packedSize};
-ghost use Rattle.lxt_written.specs.WrittenChanges.{codeOf, packedCodes, pack};
+ghost use Rattle.lxt_format.specs.declared.Kind.the-variants.{Bits};
+ghost use Rattle.lxt_written.specs.WrittenChanges.{codeOf, commandFor, packedCodes, pack};
+ghost use Rattle.lxt_written.specs.Writing.{isSymbol};
 ghost use Rattle.lxt_pack.specs.Symbols.{allBelow, sameAll, Coded, OneCommand, Chosen, Symbols, Whole, Size, Holding, Packing};
 
 // ---- one symbol
@@ -65,7 +68,7 @@ pub struct Seen {
     pub bits: bool,
 }
 
-fn look(values: &[u8], start: usize, end: usize) -> Seen
+pub fn look(values: &[u8], start: usize, end: usize) -> Seen
     requires { ⌜ (start < end) × (end ≤ length (now values)) ⌝ }
     ensures { λ r. ⌜ (r .same ≡ sameAll (slice start end (now (values .entry)))) × (r .bits ≡ allBelow 2 (slice start end (now (values .entry)))) ⌝ }
 {
@@ -137,6 +140,38 @@ pub fn command(values: &[u8], start: usize, end: usize) -> u8
         return 2;
     }
     NONE
+}
+
+fn all_of_four(values: &[u8], start: usize, end: usize) -> bool
+    requires { ⌜ (start < end) × (end ≤ length (now values)) ⌝ }
+    ensures { λ r. ⌜ r ≡ allBelow 4 (slice start end (now (values .entry))) ⌝ }
+{
+    let mut four = true;
+    let mut i = start;
+    while i < end {
+        four = four & is_one_of_four(values[i]);
+        i += 1;
+    }
+    four
+}
+
+// The same command of bytes that are known to be symbols. Each of the two has one caller, into which the compiler
+// takes it whole.
+pub fn command_of_symbols(values: &[u8], start: usize, end: usize) -> u8
+    requires { ⌜ (start < end) × (end ≤ length (now values)) × (all isSymbol (slice start end (now values)) ≡ true) ⌝ }
+    ensures { λ r. ⌜ r ≡ commandFor Bits (slice start end (now (values .entry))) ⌝ }
+{
+    let seen = look(values, start, end);
+    if seen.same {
+        return 3 + code_of(values[start]);
+    }
+    if seen.bits {
+        return 0;
+    }
+    if all_of_four(values, start, end) {
+        return 1;
+    }
+    2
 }
 
 // ---- packing, the first symbol highest

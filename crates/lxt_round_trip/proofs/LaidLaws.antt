@@ -49,7 +49,7 @@ unfolding laid changesBytes
 laid-order t = lay-order (t .facilities) (t .changes) 4 []
 
 -- what is in order up to e starts at or below it
-pub order-below : {e o : ℕ} {ls : List Laid} → InOrder e o ls → o ≤ e
+order-below : {e o : ℕ} {ls : List Laid} → InOrder e o ls → o ≤ e
 order-below none = omega arith
 order-below (both p l rest) = let h = order-below rest in omega arith
 

@@ -3,7 +3,7 @@ use Prim.Native.Nat.{ℕ, zero, suc, _+_, _*_, _-_, _≤_, _<_}
 use native.Mathlib.Omega.{arith}
 use native.Mathlib.Nat.{add-zero, zero-add}
 use mathlib.Core.Path.{_≡_, refl, ap, _∙_}
-use mathlib.Core.Bool.{Bool, true, false}
+use mathlib.Core.Bool.{Bool}
 use mathlib.Core.List.{List, [], _∷_, _++_, map, reverse, append-nil}
 use lib.ListN.{length, getD, drop, length-append, length-map}
 use lib.IntN.{ℤ}
@@ -22,7 +22,7 @@ use Rattle.lxt_layout.specs.declared.Sizes.{Sizes}
 use Rattle.lxt_layout.specs.declared.Places.{Places}
 use Rattle.lxt_layout.specs.Layout.{PlacesFor, Below, valuesSection, tailOf, Parts}
 use Rattle.lxt_layout.proofs.PlacedLaws.{placed-stands, placed-below, placed-above, placed-tail}
-use Rattle.lxt_layout.proofs.WholeLaws.{tail-long, tail-asks, file-onto}
+use Rattle.lxt_layout.proofs.WholeLaws.{values-long, tail-long, tail-asks, file-onto}
 use Rattle.lxt_facilities.specs.Rows.{namesIn}
 use Rattle.lxt_writer.specs.Changes.{layRows, Fresh, PutAsked, ChangesPut}
 use Rattle.lxt_writer.specs.Plan.{firstOf, finalOf, tablesBytes, TablesAsked, endBytes, EndAsked, FileAsked}
@@ -86,12 +86,6 @@ module _ (rows : List (List ℕ)) (names last out : List ℕ) (p : Places) (a : 
       fill-ended out (p .names) text five (p .times + 12) f₆
 
 -- ---- the sections of one value, END and the section list
-
--- how long the sections of one value are
-values-long : (timescale : ℤ) (initial : ℕ) (real : Bool) → length (valuesSection timescale initial real) ≡ 2 + (if real then 8 else 0)
-unfolding valuesSection
-values-long timescale initial true = refl
-values-long timescale initial false = refl
 
 module _ (real : Bool) (out : List ℕ) (p : Places) (a : EndAsked real out p) where
   -- END follows them
@@ -231,6 +225,7 @@ module _ (facilities : List (List ℕ)) (names : List ℕ) (changes : List (List
         let asked = tables-asked last two (put .table-long) two-long in
         tables-long facilities names last two p asked memory (z .entries) (firstOf changes) (finalOf changes)
 
+    -- and there is room for them, and for the header
     tables-room : p .names + length tables ≤ length two
     tables-room = let room = a .room p pf in let l = two-long in let e = tables-end in omega (arith, pf .timescale, pf .end, pf .length)
 

@@ -1,12 +1,11 @@
 -- Laws of the first pass over the changes.
-use Prim.Native.Nat.{ℕ, suc, _+_, _-_, _≤_, _<_}
+use Prim.Native.Nat.{ℕ, _+_, _-_, _≤_, _<_}
 use native.Mathlib.Omega.{arith}
 use native.Mathlib.Nat.{add-zero, zero-add, add-assoc}
 use mathlib.Core.Path.{_≡_, refl, sym, ap, _∙_}
 use mathlib.Core.Bool.{Bool, true, false, not, _&&_, true≢false, and-false}
 use mathlib.Core.List.{List, [], _∷_, map}
 use lib.ListN.{length, getD, drop, set, length-append}
-use lib.Seq.{drop-cons, drop-length}
 use lib.Dec.{leb, eqb}
 use borrow.Author.Tests.{le-leb, lt-leb, ne-eqb, eqb-true, not-true, not-false}
 use Rattle.lxt_format.specs.Limits.{longestFile}
@@ -17,20 +16,13 @@ use Rattle.lxt_written.specs.Input.{changeOf, changeRowAllowed}
 use Rattle.lxt_written.specs.WrittenChanges.{lastOf, Laid, pairOf, layAt, layFrom}
 use Rattle.lxt_written.specs.WrittenFile.{newTimesAfter, entriesOf}
 use Rattle.lxt_written.specs.Writing.{valueOfAllowed, changesAllowed}
+use Rattle.lxt_facilities.proofs.NameLaws.{rows-next, rows-none}
 use Rattle.lxt_writer.specs.declared.changes.Measured.{Measured}
 use Rattle.lxt_writer.specs.Changes.{nameless, layRows, endFrom, soundFrom, Fresh, rowAllowed, rowBytes, RowSized, isNew, entriesLeft}
 use Rattle.lxt_writer.specs.Changes.{ChangesMeasured, Measuring}
 use Rattle.lxt_writer.proofs.RowLaws.{row-known, row-laid, row-long, row-newest}
 
 -- ---- rows one after the other
-
--- row i and those after it
-pub row-next : (l : List (List ℕ)) (i : ℕ) → i < length l → drop i l ≡ getD l i [] ∷ drop (i + 1) l
-row-next l i h = let e : i + 1 ≡ suc i = omega arith in rw e (drop-cons l i [] h)
-
--- none is left
-pub row-none : (l : List (List ℕ)) (i : ℕ) → i ≤ length l → length l ≤ i → drop i l ≡ []
-row-none l i h k = let e : i ≡ length l = omega arith in rw e (drop-length l)
 
 -- the change of a row, laid at o
 abbrev pub laidAt : List (List ℕ) → List ℕ → ℕ → List Pair → List ℕ → Laid
@@ -156,7 +148,7 @@ module _ (rows changes : List (List ℕ)) (values : List ℕ) where
           ≡ ((leb time (getD next 1 0) && rowAllowed rows next values)
           && soundFrom rows values (o + length (step .bytes)) (pairOf step ∷ m .before) (getD next 1 0) (drop (i + 1) changes))
       unfolding next step
-      sound-here = m .sound ∙ rw (row-next changes i h) (sound-next rows values o (m .before) (getD changes i []) (drop (i + 1) changes) time)
+      sound-here = m .sound ∙ rw (rows-next changes i h) (sound-next rows values o (m .before) (getD changes i []) (drop (i + 1) changes) time)
 
       -- its time falls
       pub time-falls : getD (getD changes i []) 1 0 < time → false ≡ soundFrom rows values 4 [] 0 changes
@@ -189,7 +181,7 @@ module _ (rows changes : List (List ℕ)) (values : List ℕ) where
           let place : o + length (step .bytes) ≡ o + r = ap (λ z. o + z) e in
           let rest : List (List ℕ) = drop (i + 1) changes in
           let whole : layRows rows values o (m .before) (drop i changes) ≡ step ∷ layRows rows values (o + r) (pairOf step ∷ m .before) rest =
-          rw (row-next changes i h) (lay-next rows values o (m .before) row rest ∙ rw place) in
+          rw (rows-next changes i h) (lay-next rows values o (m .before) row rest ∙ rw place) in
           record {
             before = pairOf step ∷ m .before;
             laying = rw ef (row-newest rows row values last (m .before) o (m .laying) allowed r (omega arith) short);
@@ -197,7 +189,7 @@ module _ (rows changes : List (List ℕ)) (values : List ℕ) where
             from = omega (arith, m .from);
             few = omega (arith, m .few);
             sound = sound-here ∙ rw (le-leb time (getD row 1 0) rises, allowed, place);
-            end = m .end ∙ rw (row-next changes i h) (end-next rows values o (m .before) row rest ∙ rw place);
+            end = m .end ∙ rw (rows-next changes i h) (end-next rows values o (m .before) row rest ∙ rw place);
             left =
                 let n = entry-counted o time step (layRows rows values (o + r) (pairOf step ∷ m .before) rest) (o + r) k (omega (arith, m .from)) counted in
                 let l = m .left ∙ ap (λ ls. entries + length (entriesLeft o time ls)) whole in
@@ -208,7 +200,7 @@ module _ (rows changes : List (List ℕ)) (values : List ℕ) where
     pub measure-ended : length changes ≤ i → ChangesMeasured rows changes values (record { sound = true; end = o; entries = entries })
     unfolding soundFrom changesAllowed all layFrom joined
     measure-ended h =
-        let none : drop i changes ≡ [] = row-none changes i (m .upto) h in
+        let none : drop i changes ≡ [] = rows-none changes i (m .upto) h in
         let short : o + 0 ≤ longestFile = omega (arith, m .laying .free .most) in
         record {
           sound = sym (m .sound ∙ rw (none, le-leb (o + 0) longestFile short));

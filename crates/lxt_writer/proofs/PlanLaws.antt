@@ -109,12 +109,15 @@ module _ (facilities : List (List ℕ)) (names : List ℕ) (changes : List (List
   abbrev trace : Trace
   trace = traceOf facilities names changes values initial timescale
 
+  -- the first part of the checks, which is the first to be made
   abbrev valuesAllowed : Bool
   valuesAllowed = leb (length facilities) mostFacilities && (timescaleAllowed timescale && leb initial 8)
 
+  -- it has the number of facilities
   count-of : valuesAllowed ≡ true → length facilities ≤ mostFacilities
   count-of y = leb-true _ _ (and-both (leb (length facilities) mostFacilities) (timescaleAllowed timescale && leb initial 8) y .0)
 
+  -- the changes are allowed, their length aside
   abbrev changesSound : Bool
   changesSound = all (changeRowAllowed values) changes && changesAllowed (nameless facilities) 0 (map (changeOf values) changes)
 
@@ -176,6 +179,7 @@ module _ (facilities : List (List ℕ)) (names : List ℕ) (changes : List (List
       (both-and (changesAllowed (nameless facilities) 0 (map (changeOf values) changes)) _ (c .1)
       (le-leb (endFrom facilities values 4 [] changes) longestFile (omega arith)))
 
+  -- and where they do, they are allowed
   sound-parts : soundFrom facilities values 4 [] 0 changes ≡ true → changesSound ≡ true
   unfolding soundFrom
   sound-parts y =

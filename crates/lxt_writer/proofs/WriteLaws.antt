@@ -24,11 +24,12 @@ use Rattle.lxt_written.specs.TableSizes.{length-words}
 use Rattle.lxt_written.specs.WrittenLaws.{length-deltas}
 use Rattle.lxt_pack.specs.Change.{Sound, Puts}
 use Rattle.lxt_layout.proofs.PlacedLaws.{placed-stands, placed-below, placed-tail, stands-join-at}
+use Rattle.lxt_facilities.proofs.NameLaws.{rows-next, rows-none}
 use Rattle.lxt_writer.specs.declared.changes.Entry.{Entry}
 use Rattle.lxt_writer.specs.Changes.{nameless, layRows, endFrom, soundFrom, rowAllowed, rowBytes, isNew, entriesLeft}
 use Rattle.lxt_writer.specs.Changes.{EntryAsked, EntryPut, RowAsked, RowPut, positionsOf, timesOf, PutAsked, ChangesPut, EntriesPut, Writing}
 use Rattle.lxt_writer.proofs.RowLaws.{numbered-row, width-known, row-known, row-laid, row-long, row-newest}
-use Rattle.lxt_writer.proofs.MeasureLaws.{row-next, row-none, laidAt, lay-next, sound-next, entries-none}
+use Rattle.lxt_writer.proofs.MeasureLaws.{laidAt, lay-next, sound-next, entries-none}
 use Rattle.lxt_writer.proofs.EntryLaws.{entry-time, entry-behind, Entered, entry-room, entered, entries-kept}
 
 -- ---- one row
@@ -139,7 +140,15 @@ module _ (rows changes : List (List ℕ)) (values last out : List ℕ) (position
       -- they are what is left
       left-here : layRows rows values o (w .before) (drop i changes) ≡ step ∷ later
       unfolding row step later
-      left-here = rw (row-next changes i h) (lay-next rows values o (w .before) (getD changes i []) (drop (i + 1) changes))
+      left-here = rw (rows-next changes i h) (lay-next rows values o (w .before) (getD changes i []) (drop (i + 1) changes))
+
+      -- the bytes that are put, with those of the change
+      bytes-here : joined (λ l. l .bytes) (layRows rows values 4 [] changes) ≡ (w .done ++ step .bytes) ++ joined (λ l. l .bytes) later
+      unfolding joined
+      bytes-here =
+          w .bytes
+          ∙ ap (λ x. w .done ++ joined (λ l. l .bytes) x) left-here
+          ∙ sym (append-assoc (w .done) (step .bytes) (joined (λ l. l .bytes) later))
 
       -- all are allowed
       here-sound : (e .time ≤ getD (getD changes i []) 1 0)
@@ -148,7 +157,7 @@ module _ (rows changes : List (List ℕ)) (values last out : List ℕ) (position
       unfolding row step
       here-sound =
           let r : List ℕ = getD changes i [] in
-          let s = rw (row-next changes i h, sound-next rows values o (w .before) r (drop (i + 1) changes) (e .time)) at (w .sound) in
+          let s = rw (rows-next changes i h, sound-next rows values o (w .before) r (drop (i + 1) changes) (e .time)) at (w .sound) in
           let both = and-both (leb (e .time) (getD r 1 0) && rowAllowed rows r values) _ s in
           let first = and-both (leb (e .time) (getD r 1 0)) (rowAllowed rows r values) (both .0) in
           (leb-true (e .time) (getD r 1 0) (first .0), first .1, both .1)
@@ -164,11 +173,10 @@ module _ (rows changes : List (List ℕ)) (values last out : List ℕ) (position
 
       -- they end below the columns, and within the longest file
       step-room : o + length (step .bytes) + 4 ≤ positions
-      unfolding joined
       step-room =
-          let l = ap length (w .bytes ∙ ap (λ x. w .done ++ joined (λ y. y .bytes) x) left-here) in
-          let m = length-append (w .done) (step .bytes ++ joined (λ y. y .bytes) later) in
-          let n = length-append (step .bytes) (joined (λ y. y .bytes) later) in
+          let l = ap length bytes-here in
+          let m = length-append (w .done ++ step .bytes) (joined (λ y. y .bytes) later) in
+          let n = length-append (w .done) (step .bytes) in
           let after = a .after in
           omega (arith, w .place)
 
@@ -180,6 +188,7 @@ module _ (rows changes : List (List ℕ)) (values last out : List ℕ) (position
           let l = and-both (changesAllowed (nameless rows) (getD (getD changes i []) 1 0) (map (changeOf values) rest)) _ s .1 in
           omega (arith, leb-true (endFrom rows values (o + length (step .bytes)) (pairOf step ∷ w .before) rest) longestFile l)
 
+      -- the columns up to the entry of the change, if it gets one
       entries-here : EntriesPut
           (positionsOf 0 (entriesOf whole))
           (timesOf 0 (entriesOf whole))
@@ -191,6 +200,7 @@ module _ (rows changes : List (List ℕ)) (values last out : List ℕ) (position
       unfolding whole
       entries-here = rw left-here at (w .entries)
 
+      -- where it lies, and its time
       step-at : step .offset ≡ o
       unfolding step layAt
       step-at = refl
@@ -199,6 +209,7 @@ module _ (rows changes : List (List ℕ)) (values last out : List ℕ) (position
       unfolding row step layAt changeOf
       step-time = refl
 
+      -- there is room for the columns still
       room-here : positions + gap + gap ≤ length out′
       room-here = omega (arith, a .room, w .long)
 
@@ -221,12 +232,14 @@ module _ (rows changes : List (List ℕ)) (values last out : List ℕ) (position
         put-here : EntryPut out′ e gap o (step .time) one e₁
         put-here = rw step-time put
 
+        -- the next change lies above the first
         above : 4 < o + length (step .bytes)
         above =
             let some = row-long rows (getD changes i []) values last′ (w .before) o (w .laying) (here-sound .1) in
             let b = ap length bytes-are in
             omega (arith, w .from)
 
+        -- what its entry leaves
         entry-done : Entered
             (positionsOf 0 (entriesOf whole))
             (timesOf 0 (entriesOf whole))
@@ -269,8 +282,6 @@ module _ (rows changes : List (List ℕ)) (values last out : List ℕ) (position
             let turned = entry-done .entries in
             let kept : Stands one 4 (w .done) = entry-done .below 4 (w .done) (w .stands) (omega (arith, w .place)) in
             let laying = row-newest rows (getD changes i []) values last′ (w .before) o (w .laying) (here-sound .1) (length bytes) (omega arith) step-short in
-            let left : joined (λ y. y .bytes) (layRows rows values o (w .before) (drop i changes)) ≡ bytes ++ joined (λ y. y .bytes) later =
-            ap (joined (λ y. y .bytes)) left-here in
             record {
               before = pairOf step ∷ w .before;
               done = w .done ++ bytes;
@@ -280,7 +291,7 @@ module _ (rows changes : List (List ℕ)) (values last out : List ℕ) (position
               behind = omega (arith, entry-behind out′ e gap o t one e₁ put (w .behind));
               sound = rw (time, ← ends) (here-sound .2);
               pairs = rw (← ends) (w .pairs ∙ ap (λ x. reverseAux (map pairOf x) (w .before)) left-here);
-              bytes = rw (← ends) (w .bytes ∙ rw left (sym (append-assoc (w .done) bytes (joined (λ y. y .bytes) later))));
+              bytes = rw (← ends) bytes-here;
               place = omega (arith, w .place);
               stands =
                   rw puts
@@ -301,7 +312,7 @@ module _ (rows changes : List (List ℕ)) (values last out : List ℕ) (position
     pub writing-ended : length changes ≤ i → ChangesPut rows changes values out positions gap last′ out′
     unfolding layFrom joined deltasFrom
     writing-ended h =
-        let none : drop i changes ≡ [] = row-none changes i (w .upto) h in
+        let none : drop i changes ≡ [] = rows-none changes i (w .upto) h in
         let all : List Laid = layRows rows values 4 [] changes in
         let bytes : joined (λ l. l .bytes) all ≡ w .done = w .bytes ∙ rw none (append-nil (w .done)) in
         let ps : List ℕ = w .entries .put-positions in

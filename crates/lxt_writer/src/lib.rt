@@ -31,8 +31,7 @@ pub fn write(
     }
     let sizes = plan.sizes;
     let places = lxt_layout::placed_by(sizes);
-    let length = places.length;
-    if out.len() < length {
+    if out.len() < places.length {
         return WriteAnswer::Refused(25);
     }
     let memory = plan.memory as u32;
@@ -48,6 +47,6 @@ pub fn write(
         out,
     );
     WriteAnswer::Written {
-        length: length as u32,
+        length: places.length as u32,
     }
 }

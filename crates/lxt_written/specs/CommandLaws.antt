@@ -50,7 +50,7 @@ unfolding isSymbol codeOf symbolOf
 symbol-of-code b h = place-found b symbols h .1
 
 -- the code of a code's symbol is that code
-pub code-of-symbol : (c : ℕ) → c < 9 → codeOf (symbolOf c) ≡ c
+code-of-symbol : (c : ℕ) → c < 9 → codeOf (symbolOf c) ≡ c
 unfolding codeOf symbolOf placeOf
 code-of-symbol zero h = refl
 code-of-symbol (suc zero) h = refl
@@ -447,7 +447,7 @@ codes-small b (suc k) codes h =
     rw (e, pow-add 2 b (b * k)) (digits-lt (h 0) rest)
 
 -- the bytes of packed codes, where a byte holds 8 / b of them whole, as for b of 1, 2 and 4
-pub pack-bytes : (b n : ℕ) (codes : List ℕ) → b * (8 / b) ≡ 8 → ((i : ℕ) → getD codes i 0 < 2 ^ b) → AreBytes (pack b n codes)
+pack-bytes : (b n : ℕ) (codes : List ℕ) → b * (8 / b) ≡ 8 → ((i : ℕ) → getD codes i 0 < 2 ^ b) → AreBytes (pack b n codes)
 unfolding pack
 pack-bytes b zero codes w h i = omega arith
 pack-bytes b (suc n) codes w h zero = let l = codes-small b (8 / b) codes h in rw w at l

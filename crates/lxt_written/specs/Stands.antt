@@ -1,11 +1,11 @@
 -- Bytes that stand in a file, and what follows from it for reading numbers and parts.
-use Prim.Native.Nat.{ℕ, zero, suc, _+_, _*_, _-_, _≤_, _<_, _/_, _%_, _^_}
+use Prim.Native.Nat.{ℕ, zero, suc, _+_, _≤_, _<_, _/_, _%_, _^_}
 use mathlib.Core.Path.{_≡_, refl, sym, ap, _∙_}
 use mathlib.Core.List.{List, [], _∷_, _++_}
-use lib.ListN.{length, getD, take, drop, length-append, List·getD-append}
+use lib.ListN.{length, getD, take, length-append, List·getD-append}
 use lib.Seq.{slice, getD-append-add, getD-take, getD-drop, length-slice, ext-getD}
 use native.Mathlib.Omega.{arith}
-use native.Mathlib.Nat.{add-zero, add-suc, suc-add, pow-succ', mod-eq-of-lt}
+use native.Mathlib.Nat.{pow-succ', mod-eq-of-lt}
 use lib.Arith.{mod-mul}
 use Rattle.lxt_format.specs.Bytes.{byteAt, numberAt}
 use Rattle.lxt_written.specs.WrittenChanges.{bigEndian}
@@ -21,6 +21,7 @@ pub record Stands (s : List ℕ) (o : ℕ) (bytes : List ℕ) : Type 0 where
 pub stands-whole : (s : List ℕ) → Stands s 0 s
 stands-whole s = record { within = omega arith; same = λ i h. let e : 0 + i ≡ i = omega arith in rw e }
 
+-- of bytes that stand one after the other, the first and the second stand
 module _ (s : List ℕ) (o : ℕ) (xs ys : List ℕ) (h : Stands s o (xs ++ ys)) where
   pub stands-front : Stands s o xs
   stands-front =
@@ -52,22 +53,21 @@ stands-slice s o bytes h =
 
 -- ---- numbers
 
+-- a number in k bytes is k bytes long
 pub length-bigEndian : (k x : ℕ) → length (bigEndian k x) ≡ k
 unfolding bigEndian
 length-bigEndian zero x = refl
 length-bigEndian (suc k) x = ap suc (length-bigEndian k x)
 
-pub mod-one : (x : ℕ) → x % 1 ≡ 0
-mod-one x = omega arith
-
+-- a power of 256 is not 0
 power-positive : (k : ℕ) → 0 < 256 ^ k
 power-positive zero = omega arith
 power-positive (suc k) = let h = power-positive k in rw (pow-succ' 256 k) (omega arith)
 
 -- a number of k bytes that stands in a file is read as it was, up to what k bytes hold
-pub stands-mod : (k x : ℕ) (s : List ℕ) (o : ℕ) → Stands s o (bigEndian k x) → numberAt k s o ≡ x % 256 ^ k
+stands-mod : (k x : ℕ) (s : List ℕ) (o : ℕ) → Stands s o (bigEndian k x) → numberAt k s o ≡ x % 256 ^ k
 unfolding numberAt bigEndian
-stands-mod zero x s o h = sym (mod-one x)
+stands-mod zero x s o h = omega arith
 stands-mod (suc k) x s o h =
     let first : byteAt s o ≡ x / 256 ^ k % 256 =
     let e : o + 0 ≡ o = omega arith in

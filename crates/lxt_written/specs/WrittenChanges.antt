@@ -3,7 +3,7 @@ use Prim.Native.Nat.{ℕ, zero, suc, _+_, _*_, _-_, _/_, _%_, _^_}
 use mathlib.Core.Bool.{Bool, _&&_}
 use mathlib.Core.List.{List, [], _∷_, _++_, map}
 use lib.ListN.{length, getD, drop}
-use lib.Dec.{ltb, leb, eqb}
+use lib.Dec.{ltb, eqb}
 use Rattle.lxt_format.specs.Basics.{if_then_else_, range, all, select, joined}
 use Rattle.lxt_format.specs.Reals.{placeOf}
 use Rattle.lxt_format.specs.Changes.{commandAllowed, symbolSize, packedSize}

@@ -1,42 +1,73 @@
 -- Worked examples of paper 02, Ask 5, byte for byte, as one table under one statement; and inputs that are refused.
-use Prim.Native.Nat.{ℕ, _+_, _*_, _-_}
-use mathlib.Core.Path.{_≡_, refl}
-use mathlib.Core.Bool.{true, false}
+use Prim.Native.Nat.{ℕ}
+use mathlib.Core.Path.{refl}
 use mathlib.Core.List.{List, [], _∷_, _++_}
 use lib.ListN.{length, getD, replicate, set}
 use lib.Seq.{slice}
 use lib.IntN.{ℤ, pos, negsuc}
-use Rattle.lxt_format.specs.Basics.{given, refused}
 use Rattle.lxt_format.specs.Everything.{everything}
 use Rattle.lxt_format.specs.Traces.{spelled}
 use Rattle.lxt_format.specs.Examples.{Row, row, Holds}
 use Rattle.lxt_written.specs.Input.{traceOf, kindOfCode, part, facilityOf, changeOf, facilityRowAllowed, changeRowAllowed, rowsAllowed}
-use Rattle.lxt_written.specs.WrittenChanges.{bigEndian, codeOf, canHold, lowestOfLeast, least, commandFor, packedCodes, pack, packedSymbols, dataFor, fewestBytes, changeBytes, lastOf, layAt, layFrom, laid, changesBytes}
-use Rattle.lxt_written.specs.WrittenFile.{shared, nameBytes, namesFrom, namesOf, namesBody, flagsFor, msbFor, lsbFor, geometryBytes, geometryBody, syncBody, newTimesAfter, entriesOf, deltasFrom, firstTimeOf, lastTimeOf, timesBody, signedByte, anyReal, sectionsOf, placesFrom, placesOf, itemBytes, listBytes, fileOf}
-use Rattle.lxt_written.specs.Writing.{noZero, nameAllowed, factsFor, facilityAllowed, isSymbol, isBit, valueAllowed, valueOfAllowed, changesAllowed, traceAllowed, inputAllowed, writeRefusal, writeAsked, writeBuffer}
+use Rattle.lxt_written.specs.WrittenChanges.{bigEndian, codeOf, canHold, lowestOfLeast, least, commandFor, packedCodes, pack}
+use Rattle.lxt_written.specs.WrittenChanges.{packedSymbols, dataFor, fewestBytes, changeBytes, lastOf, layAt, layFrom, laid, changesBytes}
+use Rattle.lxt_written.specs.WrittenFile.{shared, nameBytes, namesFrom, namesOf, namesBody, flagsFor, msbFor, lsbFor, geometryBytes, geometryBody, syncBody}
+use Rattle.lxt_written.specs.WrittenFile.{newTimesAfter, entriesOf, deltasFrom, firstTimeOf, lastTimeOf, timesBody, signedByte}
+use Rattle.lxt_written.specs.WrittenFile.{anyReal, sectionsOf, placesFrom, placesOf, itemBytes, listBytes, fileOf}
+use Rattle.lxt_written.specs.Writing.{noZero, nameAllowed, factsFor, facilityAllowed, isSymbol, isBit, valueAllowed}
+use Rattle.lxt_written.specs.Writing.{valueOfAllowed, changesAllowed, traceAllowed, inputAllowed, writeRefusal, writeAsked, writeBuffer}
 
--- every definition of the writer open, with those of paper 01
-unfoldable pub writerOpen : Unit {0}
-unfolding everything kindOfCode part facilityOf changeOf facilityRowAllowed changeRowAllowed rowsAllowed bigEndian codeOf canHold lowestOfLeast least commandFor packedCodes pack packedSymbols dataFor fewestBytes changeBytes lastOf layAt layFrom laid changesBytes shared nameBytes namesFrom namesOf namesBody flagsFor msbFor lsbFor geometryBytes geometryBody syncBody newTimesAfter entriesOf deltasFrom firstTimeOf lastTimeOf timesBody signedByte anyReal sectionsOf placesFrom placesOf itemBytes listBytes fileOf noZero nameAllowed factsFor facilityAllowed isSymbol isBit valueAllowed valueOfAllowed changesAllowed traceAllowed inputAllowed writeRefusal writeAsked writeBuffer
+-- ---- every definition of the writer open, with those of paper 01
+
+-- the input
+unfoldable inputOpen : Unit {0}
+unfolding kindOfCode part facilityOf changeOf facilityRowAllowed changeRowAllowed rowsAllowed
+inputOpen = tt
+
+-- the changes
+unfoldable changesOpen : Unit {0}
+unfolding bigEndian codeOf canHold lowestOfLeast least commandFor packedCodes pack packedSymbols dataFor fewestBytes changeBytes lastOf layAt layFrom laid changesBytes
+changesOpen = tt
+
+-- the sections 03, 04 and 02
+unfoldable tablesOpen : Unit {0}
+unfolding shared nameBytes namesFrom namesOf namesBody flagsFor msbFor lsbFor geometryBytes geometryBody syncBody
+tablesOpen = tt
+
+-- the others, and the file
+unfoldable fileOpen : Unit {0}
+unfolding newTimesAfter entriesOf deltasFrom firstTimeOf lastTimeOf timesBody signedByte anyReal sectionsOf placesFrom placesOf itemBytes listBytes fileOf
+fileOpen = tt
+
+-- the refusals and the call
+unfoldable callOpen : Unit {0}
+unfolding noZero nameAllowed factsFor facilityAllowed isSymbol isBit valueAllowed valueOfAllowed changesAllowed traceAllowed inputAllowed writeRefusal writeAsked writeBuffer
+callOpen = tt
+
+unfoldable writerOpen : Unit {0}
+unfolding everything inputOpen changesOpen tablesOpen fileOpen callOpen
 writerOpen = tt
 
--- an input, as it is lent
-pub record Lent : Type 0 where
-  pub facilities : List (List ℕ)
-  pub names : List ℕ
-  pub changes : List (List ℕ)
-  pub values : List ℕ
-  pub initial : ℕ
-  pub timescale : ℤ
+-- ---- inputs
 
-abbrev pub bufferOf : Lent → List ℕ → List ℕ
+-- an input, as it is lent
+record Lent : Type 0 where
+  facilities : List (List ℕ)
+  names : List ℕ
+  changes : List (List ℕ)
+  values : List ℕ
+  initial : ℕ
+  timescale : ℤ
+
+-- what is in the buffer afterwards, and the refusal
+abbrev bufferOf : Lent → List ℕ → List ℕ
 bufferOf i out = writeBuffer (i .facilities) (i .names) (i .changes) (i .values) (i .initial) (i .timescale) out
 
-abbrev pub refusalOf : Lent → ℕ → ℕ
+abbrev refusalOf : Lent → ℕ → ℕ
 refusalOf i room = writeRefusal (i .facilities) (i .names) (i .changes) (i .values) (i .initial) (i .timescale) room
 
 -- E1: a bits 0 0; initial 3, timescale -9; (0, time 0, "1"), (0, 5, "0")
-abbrev pub input1 : Lent
+abbrev input1 : Lent
 input1 =
     record {
       facilities = (0 ∷ 1 ∷ 0 ∷ 0 ∷ 0 ∷ []) ∷ [];
@@ -48,7 +79,7 @@ input1 =
     }
 
 -- E2: nothing; initial 0, timescale 0
-abbrev pub input2 : Lent
+abbrev input2 : Lent
 input2 =
     record {
       facilities = [];
@@ -60,7 +91,7 @@ input2 =
     }
 
 -- E3: "" bits 2 0; at time 9 "010", "0ZX", "0HX", "XXX", "---"
-abbrev pub input3 : Lent
+abbrev input3 : Lent
 input3 =
     record {
       facilities = (0 ∷ 0 ∷ 0 ∷ 2 ∷ 0 ∷ []) ∷ [];
@@ -72,7 +103,7 @@ input3 =
     }
 
 -- E4: an integer given with 7, -7; all 0 and all 1 at 1, "1" 0^30 "1" at 2
-abbrev pub input4 : Lent
+abbrev input4 : Lent
 input4 =
     record {
       facilities = (0 ∷ 1 ∷ 1 ∷ 7 ∷ 4294967289 ∷ []) ∷ [];
@@ -84,7 +115,7 @@ input4 =
     }
 
 -- E5: a real: 3.14159, a NaN 7FF0000000000001, -0
-abbrev pub input5 : Lent
+abbrev input5 : Lent
 input5 =
     record {
       facilities = (0 ∷ 1 ∷ 2 ∷ 5 ∷ 6 ∷ []) ∷ [];
@@ -96,7 +127,7 @@ input5 =
     }
 
 -- E6: texts alpha, apple, application, zero; (3, 4, "hi"), (0, 4, "")
-abbrev pub input6 : Lent
+abbrev input6 : Lent
 input6 =
     record {
       facilities = (0 ∷ 5 ∷ 3 ∷ 0 ∷ 0 ∷ []) ∷ (5 ∷ 5 ∷ 3 ∷ 1 ∷ 1 ∷ []) ∷ (10 ∷ 11 ∷ 3 ∷ 0 ∷ 0 ∷ []) ∷ (21 ∷ 4 ∷ 3 ∷ 0 ∷ 0 ∷ []) ∷ [];
@@ -108,7 +139,7 @@ input6 =
     }
 
 -- E7: "ck" and "ck" bits 1 0; (0, 0, "0"), (1, 0, "0Z"), (0, 1, "1"), (1, 4294967295, "01"), where the first is of width 1
-abbrev pub input7 : Lent
+abbrev input7 : Lent
 input7 =
     record {
       facilities = (0 ∷ 2 ∷ 0 ∷ 0 ∷ 0 ∷ []) ∷ (0 ∷ 2 ∷ 0 ∷ 1 ∷ 0 ∷ []) ∷ [];
@@ -119,15 +150,34 @@ input7 =
       timescale = negsuc 8;
     }
 
--- what is written in a buffer of just the length
-abbrev pub fileBytes : Lent → List ℕ
+-- the file that an input means
+abbrev fileBytes : Lent → List ℕ
 fileBytes i = fileOf (traceOf (i .facilities) (i .names) (i .changes) (i .values) (i .initial) (i .timescale))
+
+-- ---- the examples, and what is refused
+
+-- all bytes of E1 and of E2
+abbrev bytes1 : List ℕ
+bytes1 =
+    spelled 20 0x0138000404020300000000010000000200006100
+    ++ spelled 20 0x0000000000000000000000000000000000000006
+    ++ spelled 20 0x0000000200000000000000050000000400000002
+    ++ spelled 20 0x0000000000000005F70300000000040100000024
+    ++ spelled 20 0x0200000008030000001404000000440500000028
+    ++ spelled 7 0x060000004507B4
+
+abbrev bytes2 : List ℕ
+bytes2 =
+    spelled 20 0x0138000400000000000000000000000000000000
+    ++ spelled 20 0x0000000000000000000004010000000C02000000
+    ++ spelled 20 0x04030000000C0400000018050000000C06000000
+    ++ spelled 3 0x1907B4
 
 pub written : List Row
 written =
-    row 1 (fileBytes input1) (spelled 20 0x0138000404020300000000010000000200006100 ++ spelled 20 0x0000000000000000000000000000000000000006 ++ spelled 20 0x0000000200000000000000050000000400000002 ++ spelled 20 0x0000000000000005F70300000000040100000024 ++ spelled 20 0x0200000008030000001404000000440500000028 ++ spelled 7 0x060000004507B4)
+    row 1 (fileBytes input1) bytes1
     ∷ row 1 (length (fileBytes input1)) (107)
-    ∷ row 2 (fileBytes input2) (spelled 20 0x0138000400000000000000000000000000000000 ++ spelled 20 0x0000000000000000000004010000000C02000000 ++ spelled 20 0x04030000000C0400000018050000000C06000000 ++ spelled 3 0x1907B4)
+    ∷ row 2 (fileBytes input2) bytes2
     ∷ row 2 (length (fileBytes input2)) (63)
     ∷ row 3 (slice 4 18 (fileBytes input3)) (spelled 14 0x00024001012C0201043006020B00)
     ∷ row 3 (slice 49 69 (fileBytes input3)) (spelled 20 0x0000000100000009000000090000000400000009)
@@ -157,6 +207,7 @@ abbrev with : List (List ℕ) → List ℕ → List (List ℕ) → List ℕ → 
 with facilities names changes values initial timescale =
     record { facilities = facilities; names = names; changes = changes; values = values; initial = initial; timescale = timescale }
 
+-- the parts of E1
 abbrev facility1 : List (List ℕ)
 facility1 = input1 .facilities
 
@@ -173,6 +224,7 @@ values1 = input1 .values
 abbrev at : List (List ℕ) → ℕ → ℕ → ℕ → List (List ℕ)
 at table i j x = set table i (set (getD table i []) j x)
 
+-- E1 with a fault, 24, against what is just allowed, 25 for a buffer of 4 bytes
 pub refusals : List Row
 refusals =
     row 1 (refusalOf (with facility1 a changes1 values1 3 (pos 3)) 4) (24)
@@ -197,7 +249,17 @@ refusals =
     ∷ row 9 (refusalOf (with ((0 ∷ 1 ∷ 0 ∷ 4096 ∷ 0 ∷ []) ∷ []) a [] values1 3 (negsuc 8)) 4) (24)
     ∷ row 9 (refusalOf (with ((0 ∷ 1 ∷ 0 ∷ 4095 ∷ 0 ∷ []) ∷ []) a [] values1 3 (negsuc 8)) 4) (25)
     ∷ row 9 (refusalOf (with ((0 ∷ 1 ∷ 0 ∷ 2147483647 ∷ 2147483648 ∷ []) ∷ []) a [] values1 3 (negsuc 8)) 4) (24)
-    ∷ row 10 (refusalOf input1 106) (25)
+    ∷ []
+
+pub refusals-hold : Holds refusals
+unfolding writerOpen spelled refusals
+refusals-hold =
+    (refl, (refl, (refl, (refl, (refl, (refl, (refl, (refl, (refl, (refl, (refl, (refl, (refl, (refl, (refl, (refl, (refl, (refl, (refl, (refl, (refl, (refl, tt))))))))))))))))))))))
+
+-- 25 and the buffer, and values of the other kinds that are not allowed
+pub others : List Row
+others =
+    row 10 (refusalOf input1 106) (25)
     ∷ row 10 (refusalOf input1 107) (0)
     ∷ row 10 (bufferOf input1 (replicate 106 0xFF)) (replicate 106 0xFF)
     ∷ row 10 (bufferOf input1 (replicate 110 0xFF)) (fileBytes input1 ++ replicate 3 0xFF)
@@ -206,7 +268,6 @@ refusals =
     ∷ row 13 (refusalOf (with (input4 .facilities) (input4 .names) (input4 .changes) (set (input4 .values) 3 0x5A) 3 (negsuc 8)) 4) (24)
     ∷ []
 
-pub refusals-hold : Holds refusals
-unfolding writerOpen spelled refusals
-refusals-hold =
-    (refl, (refl, (refl, (refl, (refl, (refl, (refl, (refl, (refl, (refl, (refl, (refl, (refl, (refl, (refl, (refl, (refl, (refl, (refl, (refl, (refl, (refl, (refl, (refl, (refl, (refl, (refl, (refl, (refl, tt)))))))))))))))))))))))))))))
+pub others-hold : Holds others
+unfolding writerOpen spelled others
+others-hold = (refl, (refl, (refl, (refl, (refl, (refl, (refl, tt)))))))

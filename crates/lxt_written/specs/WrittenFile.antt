@@ -1,5 +1,5 @@
 -- Paper 02, Ask 5: "write an LXT file of version 4 with tag 06". The sections, and the whole file.
-use Prim.Native.Nat.{ℕ, zero, suc, _+_, _-_}
+use Prim.Native.Nat.{ℕ, suc, _+_, _-_}
 use mathlib.Core.Bool.{Bool}
 use mathlib.Core.List.{List, [], _∷_, _++_, map, reverse}
 use lib.ListN.{length, getD, drop}
@@ -11,8 +11,7 @@ use Rattle.lxt_format.specs.Names.{memoryOf}
 use Rattle.lxt_format.specs.Reals.{testPattern, isReal}
 use Rattle.lxt_format.specs.declared.Kind.{Kind}
 use Rattle.lxt_format.specs.declared.Kind.the-variants.{Bits, Integer, Real, Text}
-use Rattle.lxt_format.specs.declared.Pair.{Pair}
-use Rattle.lxt_written.specs.Input.{Facility, Change, Trace}
+use Rattle.lxt_written.specs.Input.{Facility, Trace}
 use Rattle.lxt_written.specs.WrittenChanges.{bigEndian, lastOf, Laid, pairOf, laid, changesBytes}
 
 -- numbers of 4 bytes each

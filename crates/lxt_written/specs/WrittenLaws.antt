@@ -76,6 +76,7 @@ sections-are t = on-test (anyReal t) (λ e. rw e) (λ e. rw e)
 abbrev namesAt : Trace → ℕ
 namesAt t = 4 + length (changesBytes t)
 
+-- where each section starts, and that there is no 08 without a real
 pub record Starts (t : Trace) : Type 0 where
   pub changes : valueIn 0x01 (placesOf t) ≡ 4
   pub names : valueIn 0x03 (placesOf t) ≡ namesAt t

@@ -1,7 +1,7 @@
 -- The input is planned, its room tested, and then the file is put.
 use mir.Syntax.{w8}
 use mir.ValLaws.{toZ-ofZ}
-use Rattle.lxt_layout.proofs.WholeLaws.{length-small}
+use Rattle.lxt_layout.proofs.WholeLaws.{below-of, length-small}
 use native.Mathlib.Omega.{arith}
 use Rattle.lxt_writer.proofs.AnswerLaws.{answers-24, sizes-small, memory-small, answers-25, file-asked, answers-written}
 use borrow.Author.Needs.{needs}
@@ -17,9 +17,7 @@ returns c =
     let start = planned .before .before .before .before in
     let scale = toZ-ofZ w8 (start .args .timescale) (start .fits .timescale) in
     let plan = rw scale at (planned .plan-for .ensures) in
-    let a = start .args in
-    answers-24 _ _ _ _ _ _ (a .out .now) _ plan
-    (c .if1 .taken)
+    answers-24 _ _ _ _ _ _ (start .args .out .now) _ plan (c .if1 .taken)
 
 placed-by-requires : tie.Need-placed-by-requires
 placed-by-requires c κs =
@@ -28,74 +26,66 @@ placed-by-requires c κs =
     let start = planned .before .before .before .before in
     let scale = toZ-ofZ w8 (start .args .timescale) (start .fits .timescale) in
     let plan = rw scale at (planned .plan-for .ensures) in
-    let a = start .args in
-    sizes-small _ _ _ _ _ _ (a .out .now) _ plan
-    (allowed .if1 .left)
+    sizes-small _ _ _ _ _ _ (start .args .out .now) _ plan (allowed .if1 .left)
 
 returns-2 : tie.Need-returns-2
 returns-2 c =
-    let placed = c .before in
+    let placed = c .before .before in
     let allowed = placed .before .before in
     let planned = allowed .before .before in
     let start = planned .before .before .before .before in
     let scale = toZ-ofZ w8 (start .args .timescale) (start .fits .timescale) in
     let plan = rw scale at (planned .plan-for .ensures) in
-    let a = start .args in
-    answers-25 _ _ _ _ _ _ (a .out .now) _ plan
-    (allowed .if1 .left) _ (placed .placed-by .ensures) (c .if2 .taken)
+    let below = below-of _ _ (placed .placed-by .ensures) in
+    answers-25 _ _ _ _ _ _ (start .args .out .now) _ plan (allowed .if1 .left) _ (placed .placed-by .ensures)
+    (omega (arith, c .if2 .taken, below .names, below .end))
 
 cast-memory : tie.Need-cast-memory
 cast-memory c =
-    let allowed = c .before .before .before .before in
+    let allowed = c .before .before .before .before .before in
     let planned = allowed .before .before in
     let start = planned .before .before .before .before in
     let scale = toZ-ofZ w8 (start .args .timescale) (start .fits .timescale) in
     let plan = rw scale at (planned .plan-for .ensures) in
-    let a = start .args in
-    omega
-    (arith, memory-small _ _ _ _ _ _ (a .out .now) _ plan (allowed .if1 .left))
+    omega (arith, memory-small _ _ _ _ _ _ (start .args .out .now) _ plan (allowed .if1 .left))
 
 put-file-requires : tie.Need-put-file-requires
 put-file-requires c κs =
     let roomy = c .before .before in
-    let placed = roomy .before in
+    let placed = roomy .before .before in
     let allowed = placed .before .before in
     let planned = allowed .before .before in
     let start = planned .before .before .before .before in
     let scale = toZ-ofZ w8 (start .args .timescale) (start .fits .timescale) in
     let plan = rw scale at (planned .plan-for .ensures) in
-    let a = start .args in
-    rw scale
-    (file-asked _ _ _ _ _ _ (a .out .now) _ plan (allowed .if1 .left) _ (placed .placed-by .ensures) (roomy .if2 .left))
+    rw scale (file-asked _ _ _ _ _ _ (start .args .out .now) _ plan (allowed .if1 .left) _ (placed .placed-by .ensures) (roomy .if2 .left))
 
-cast-t18 : tie.Need-cast-t18
-cast-t18 c =
-    let placed = c .before .before .before .before .before .before in
+cast-t17 : tie.Need-cast-t17
+cast-t17 c =
+    let placed = c .before .before .before .before .before .before .before .before in
     let allowed = placed .before .before in
     let planned = allowed .before .before in
     let start = planned .before .before .before .before in
     let scale = toZ-ofZ w8 (start .args .timescale) (start .fits .timescale) in
     let plan = rw scale at (planned .plan-for .ensures) in
-    let a = start .args in
-    omega
-    (arith, length-small _ _ (sizes-small _ _ _ _ _ _ (a .out .now) _ plan (allowed .if1 .left)) (placed .placed-by .ensures))
+    let bounded = sizes-small _ _ _ _ _ _ (start .args .out .now) _ plan (allowed .if1 .left) in
+    omega (arith, length-small _ _ bounded (placed .placed-by .ensures))
 
 same-length : tie.Need-same-length
 same-length c = search needs
 
 returns-3 : tie.Need-returns-3
 returns-3 c =
-    let written = c .before .before in
+    let written = c .before .before .before in
     let roomy = written .before .before .before in
-    let placed = roomy .before in
+    let placed = roomy .before .before in
     let allowed = placed .before .before in
     let planned = allowed .before .before in
     let start = planned .before .before .before .before in
     let scale = toZ-ofZ w8 (start .args .timescale) (start .fits .timescale) in
     let plan = rw scale at (planned .plan-for .ensures) in
-    let a = start .args in
-    answers-written _ _ _ _ _ _ (a .out .now) _ plan
-    (allowed .if1 .left) _ (placed .placed-by .ensures) (roomy .if2 .left) _ (rw scale at (written .put-file .ensures))
+    answers-written _ _ _ _ _ _ (start .args .out .now) _ plan (allowed .if1 .left) _ (placed .placed-by .ensures) (roomy .if2 .left) _
+    (rw scale at (written .put-file .ensures))
 
 pub write-spec : {M : Type 1} → statement M
 write-spec =
@@ -107,6 +97,6 @@ write-spec =
     returns-2
     cast-memory
     put-file-requires
-    cast-t18
+    cast-t17
     same-length
     returns-3)

@@ -2,8 +2,6 @@ use Rattle.lxt_c.specs.Numbers.{numberOf, oneNumber}
 use borrow.Author.Needs.{needs}
 use Rattle.lxt_c.proofs.write.give_length.Statement.{statement}
 use Rattle.lxt_c.proofs.write.give_length.Tie as tie
-use Rattle.lxt_c.proofs.write.give_length.Reads as reads
-use Rattle.lxt_c.proofs.write.give_length.Lts as lts
 
 enum-known-a : tie.Need-enum-known-a
 enum-known-a c = search needs

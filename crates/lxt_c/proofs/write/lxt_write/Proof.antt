@@ -4,10 +4,6 @@ use mir.ValLaws.{toZ-ofZ}
 use borrow.Author.Needs.{needs}
 use Rattle.lxt_c.proofs.write.lxt_write.Statement.{statement}
 use Rattle.lxt_c.proofs.write.lxt_write.Tie as tie
-use Rattle.lxt_c.proofs.write.lxt_write.Reads as reads
-use Rattle.lxt_c.proofs.write.lxt_write.Lts as lts
-use Rattle.lxt_c.proofs.write.give_length.Reads as give-length-reads
-use Rattle.lxt_writer.proofs.write.Reads as write-reads
 
 write-requires : tie.Need-write-requires
 write-requires c κs = search needs
@@ -19,7 +15,13 @@ same-length : tie.Need-same-length
 same-length c = search needs
 
 returns : tie.Need-returns
-returns c = let start = c .before .before .before .before .before .before .before .before .before in let scale = toZ-ofZ w8 (start .args .timescale) (start .fits .timescale) in let says = rw scale at (c .before .before .before .before .write .ensures .0) in let given = c .give-length .ensures in (number-is says (given .0), (rw scale at (c .before .before .before .before .write .ensures .1), one-number-is says _ (given .1)))
+returns c =
+    let written = c .before .before .before .before in
+    let start = written .before .before .before .before .before in
+    let scale = toZ-ofZ w8 (start .args .timescale) (start .fits .timescale) in
+    let says = rw scale at (written .write .ensures .0) in
+    let given = c .give-length .ensures in
+    (number-is says (given .0), (rw scale at (written .write .ensures .1), one-number-is says _ (given .1)))
 
 pub lxt-write-spec : {M : Type 1} → statement M
 lxt-write-spec = tie.close (tie.spec write-requires give-length-requires same-length returns)

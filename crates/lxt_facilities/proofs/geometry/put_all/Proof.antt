@@ -27,7 +27,9 @@ put-row-requires : tie.Need-put-row-requires Inv-loop μ-loop
 put-row-requires c κs = row-room 16 rowBytes length-row [] (c .before .before .before .loop .inv) (c .before .before .loop-test .taken)
 
 add-p : tie.Need-add-p Inv-loop μ-loop
-add-p c = omega (arith, row-room 16 rowBytes length-row [] (c .before .before .before .before .before .before .loop .inv) (c .before .before .before .before .before .loop-test .taken))
+add-p c =
+    let test = c .before .before .before .before .before in
+    omega (arith, row-room 16 rowBytes length-row [] (test .before .loop .inv) (test .loop-test .taken))
 
 add-f : tie.Need-add-f Inv-loop μ-loop
 add-f c = search needs
@@ -38,7 +40,8 @@ loop-less c = search needs
 loop-again : tie.Need-loop-again Inv-loop μ-loop
 loop-again c =
     let put = c .before .before in
-    row-turn 16 rowBytes length-row _ (put .before .before .before .before .loop .inv) (put .before .before .before .loop-test .taken) (put .put-row .ensures)
+    let test = put .before .before .before in
+    row-turn 16 rowBytes length-row _ (test .before .loop .inv) (test .loop-test .taken) (put .put-row .ensures)
 
 same-length : tie.Need-same-length Inv-loop μ-loop
 same-length c = c .before .loop .inv .filling .long

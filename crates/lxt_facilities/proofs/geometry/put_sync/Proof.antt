@@ -27,7 +27,9 @@ four-requires : tie.Need-four-requires Inv-loop μ-loop
 four-requires c κs = row-room 4 (bigEndian 4) (length-bigEndian 4) 0 (c .before .before .before .loop .inv) (c .before .before .loop-test .taken)
 
 add-p : tie.Need-add-p Inv-loop μ-loop
-add-p c = omega (arith, row-room 4 (bigEndian 4) (length-bigEndian 4) 0 (c .before .before .before .before .before .before .loop .inv) (c .before .before .before .before .before .loop-test .taken))
+add-p c =
+    let test = c .before .before .before .before .before in
+    omega (arith, row-room 4 (bigEndian 4) (length-bigEndian 4) 0 (test .before .loop .inv) (test .loop-test .taken))
 
 add-f : tie.Need-add-f Inv-loop μ-loop
 add-f c = search needs
@@ -38,7 +40,8 @@ loop-less c = search needs
 loop-again : tie.Need-loop-again Inv-loop μ-loop
 loop-again c =
     let put = c .before .before in
-    row-turn 4 (bigEndian 4) (length-bigEndian 4) _ (put .before .before .before .before .loop .inv) (put .before .before .before .loop-test .taken) (put .four .ensures)
+    let test = put .before .before .before in
+    row-turn 4 (bigEndian 4) (length-bigEndian 4) _ (test .before .loop .inv) (test .loop-test .taken) (put .four .ensures)
 
 same-length : tie.Need-same-length Inv-loop μ-loop
 same-length c = c .before .loop .inv .filling .long

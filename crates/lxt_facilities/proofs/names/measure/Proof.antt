@@ -17,7 +17,9 @@ abbrev μ-loop : tie.MeasureT-loop
 kept : (c : tie.Else1 Inv-loop μ-loop)
     → RowKept (c .before .before .before .before .before .before .args .names .now)
     (getD (c .before .before .before .before .before .before .args .facilities .now) (c .before .before .before .before .loop .f) [])
-kept c = kept-here (c .before .before .before .before .loop .inv) (c .before .before .before .loop-test .taken) (c .before .allowed .ensures) (c .if1 .left)
+kept c =
+    let test = c .before .before .before in
+    kept-here (test .before .loop .inv) (test .loop-test .taken) (c .before .allowed .ensures) (c .if1 .left)
 
 loop-holds : tie.Need-loop-holds Inv-loop μ-loop
 loop-holds c = measure-begun _ _
@@ -32,7 +34,9 @@ allowed-requires : tie.Need-allowed-requires Inv-loop μ-loop
 allowed-requires c κs = search needs
 
 returns : tie.Need-returns Inv-loop μ-loop
-returns c = measure-stop (c .before .before .before .before .loop .inv) (c .before .before .before .loop-test .taken) (c .before .allowed .ensures) (c .if1 .taken)
+returns c =
+    let test = c .before .before .before in
+    measure-stop (test .before .loop .inv) (test .loop-test .taken) (c .before .allowed .ensures) (c .if1 .taken)
 
 array-read-at : tie.Need-array-read-at Inv-loop μ-loop
 array-read-at c = search needs
@@ -76,7 +80,8 @@ loop-less c = search needs
 loop-again : tie.Need-loop-again Inv-loop μ-loop
 loop-again c =
     let met = c .before .before in
-    measure-turn (met .before .before .before .loop .inv) (met .before .before .loop-test .taken) (met .allowed .ensures) (c .before .if1 .left) (c .shared .ensures .0)
+    let test = met .before .before in
+    measure-turn (test .before .loop .inv) (test .loop-test .taken) (met .allowed .ensures) (c .before .if1 .left) (c .shared .ensures .0)
 
 returns-2 : tie.Need-returns-2 Inv-loop μ-loop
 returns-2 c = measure-ended (c .before .loop .inv) (c .loop-test .left)

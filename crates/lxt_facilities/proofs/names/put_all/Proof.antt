@@ -15,7 +15,8 @@ abbrev μ-loop : tie.MeasureT-loop
 
 -- the row is allowed
 kept : (c : tie.After-row Inv-loop μ-loop)
-    → RowKept (c .before .before .before .before .before .args .names .now) (getD (c .before .before .before .before .before .args .facilities .now) (c .before .before .loop .f) [])
+    → RowKept (c .before .before .before .before .before .args .names .now)
+    (getD (c .before .before .before .before .before .args .facilities .now) (c .before .before .loop .f) [])
 kept c = name-kept (c .before .before .loop .inv) (c .before .loop-test .taken)
 
 -- its name has room
@@ -47,7 +48,7 @@ cast-size : tie.Need-cast-size Inv-loop μ-loop
 cast-size c = omega (arith, kept c .short)
 
 shared-requires : tie.Need-shared-requires Inv-loop μ-loop
-shared-requires c κs = (c .before .before .loop .inv .inside, kept c .inside)
+shared-requires c κs = (omega (arith, c .before .before .loop .inv .inside), kept c .inside)
 
 put-name-requires : tie.Need-put-name-requires Inv-loop μ-loop
 put-name-requires c κs = let n = next (c .before) in (n .part-of, n .short, n .inside, n .room)
@@ -70,7 +71,8 @@ loop-less c = search needs
 loop-again : tie.Need-loop-again Inv-loop μ-loop
 loop-again c =
     let met = c .before .before .before .before in
-    name-turn (met .before .before .before .loop .inv) (met .before .before .loop-test .taken) (met .shared .ensures .0) (c .before .before .put-name .ensures)
+    let test = met .before .before in
+    name-turn (test .before .loop .inv) (test .loop-test .taken) (met .shared .ensures .0) (c .before .before .put-name .ensures)
 
 same-length : tie.Need-same-length Inv-loop μ-loop
 same-length c = c .before .loop .inv .filling .long
