@@ -5,8 +5,8 @@ use std::fmt;
 /// Makes the enum, its list and the words of each case from one table.
 macro_rules! refusals {
     ($($number:literal $name:ident $words:literal)*) => {
-        /// Why a call was refused: the first rule that the file or the question breaks, in the order of the
-        /// numbers. A refused call has changed nothing that was lent to it.
+        /// Why a call was refused: the first rule that the file, the question or what is to be written breaks, in
+        /// the order of the numbers. A refused call has changed nothing that was lent to it.
         ///
         /// 1 to 17 are about the file, 18 to 22 about the question, 24 and 25 about what is to be written. The
         /// rules behind them, with an example of each, are in docs/FORMAT.md.
