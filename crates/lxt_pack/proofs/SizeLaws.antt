@@ -30,24 +30,21 @@ use Rattle.lxt_pack.specs.Change.{Part, WidthFor, notAllowed, sizeFor, S
 abbrev Few : ℕ → ℕ → Type 0
 Few delta k = (k ≡ fewestBytes delta) × (1 ≤ k) × (k ≤ 4)
 
-module _ (delta : ℕ) where
-  pub few-1 : delta < 256 → Few delta 1
-  unfolding fewestBytes
-  few-1 h = (rw (lt-ltb delta 256 h), omega arith, omega arith)
-
-  module _ (a : 256 ≤ delta) where
-    pub few-2 : delta < 65536 → Few delta 2
-    unfolding fewestBytes
-    few-2 h = (rw (le-ltb delta 256 a, lt-ltb delta 65536 h), omega arith, omega arith)
-
-    module _ (b : 65536 ≤ delta) where
-      pub few-3 : delta < 16777216 → Few delta 3
-      unfolding fewestBytes
-      few-3 h = (rw (le-ltb delta 256 a, le-ltb delta 65536 b, lt-ltb delta 16777216 h), omega arith, omega arith)
-
-      pub few-4 : 16777216 ≤ delta → Few delta 4
-      unfolding fewestBytes
-      few-4 h = (rw (le-ltb delta 256 a, le-ltb delta 65536 b, le-ltb delta 16777216 h), omega arith, omega arith)
+-- one byte, and one more from each power of 256 on
+pub few-sum : (delta a b c : ℕ) → a ≡ (if ltb 255 delta then 1 else 0) → b ≡ (if ltb 65535 delta then 1 else 0) → c ≡ (if ltb 16777215 delta then 1 else 0)
+    → Few delta (1 + a + b + c)
+unfolding fewestBytes
+few-sum delta a b c ea eb ec =
+    elim (decLe delta 255) [
+      | yes h ↦ rw (ea, eb, ec, le-ltb 255 delta h, le-ltb 65535 delta (omega arith), le-ltb 16777215 delta (omega arith), lt-ltb delta 256 (omega arith)) (refl, omega arith, omega arith)
+      | no h ↦ elim (decLe delta 65535) [
+        | yes k ↦ rw (ea, eb, ec, lt-ltb 255 delta (omega arith), le-ltb 65535 delta k, le-ltb 16777215 delta (omega arith), le-ltb delta 256 (omega arith), lt-ltb delta 65536 (omega arith)) (refl, omega arith, omega arith)
+        | no k ↦ elim (decLe delta 16777215) [
+          | yes l ↦ rw (ea, eb, ec, lt-ltb 255 delta (omega arith), lt-ltb 65535 delta (omega arith), le-ltb 16777215 delta l, le-ltb delta 256 (omega arith), le-ltb delta 65536 (omega arith), lt-ltb delta 16777216 (omega arith)) (refl, omega arith, omega arith)
+          | no l ↦ rw (ea, eb, ec, lt-ltb 255 delta (omega arith), lt-ltb 65535 delta (omega arith), lt-ltb 16777215 delta (omega arith), le-ltb delta 256 (omega arith), le-ltb delta 65536 (omega arith), le-ltb delta 16777216 (omega arith)) (refl, omega arith, omega arith)
+        ]
+      ]
+    ]
 
 -- a delta that takes so many bytes is small
 module _ (delta : ℕ) where

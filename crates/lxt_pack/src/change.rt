@@ -16,20 +16,17 @@ use lxt_format::Kind;
 
 // ---- how many bytes
 
-// The bytes that a delta takes.
+fn one_if(test: bool) -> usize
+    ensures { λ r. ⌜ (r ≡ (if test then 1 else 0)) × (r ≤ 1) ⌝ }
+{
+    if test { 1 } else { 0 }
+}
+
+// The bytes that a delta takes, counted without a branch.
 fn delta_size(delta: u32) -> usize
     ensures { λ r. ⌜ (r ≡ fewestBytes delta) × (1 ≤ r) × (r ≤ 4) ⌝ }
 {
-    if delta < 0x100 {
-        return 1;
-    }
-    if delta < 0x1_0000 {
-        return 2;
-    }
-    if delta < 0x100_0000 {
-        return 3;
-    }
-    4
+    1 + one_if(0xFF < delta) + one_if(0xFFFF < delta) + one_if(0xFF_FFFF < delta)
 }
 
 // The bits of a symbol under a command.
