@@ -21,8 +21,8 @@ use Rattle.lxt_format.specs.declared.Kind.the-variants.{Bits, Integer, Real, Te
 use Rattle.lxt_written.specs.WrittenChanges.{codeOf, canHold, commandFor, packedSymbols, dataFor, fewestBytes}
 use Rattle.lxt_written.specs.Writing.{noZero, isSymbol, isBit, valueAllowed}
 use Rattle.lxt_written.specs.CommandLaws.{length-packed, value-symbols, integer-codes, command-one, command-0, bit-symbol, bit-code, command-bound, command-holds, held-one, held-codes, no-data}
-use Rattle.lxt_pack.specs.Symbols.{allBelow, sameAll, Chosen}
-use Rattle.lxt_pack.proofs.SymbolLaws.{bit-is}
+use Rattle.lxt_pack.specs.Symbols.{allBelow, sameAll}
+use Rattle.lxt_pack.proofs.SymbolLaws.{bit-is, symbols-codes, below-more, same-below, first-below, first-of, chosen-same, chosen-0, chosen-1, chosen-2}
 use Rattle.lxt_pack.specs.Change.{Part, WidthFor, notAllowed, sizeFor, Sizes, Scales}
 
 -- ---- deltas
@@ -190,26 +190,56 @@ module _ (v : List ℕ) (start end : ℕ) (p : Part v start end) where
   bits-long width n =
       sym (size-refused Bits width (slice start end v) (rw (part-long, ne-eqb (end - start) width n)))
 
-  module _ (width c : ℕ) (e : end - start ≡ width) (h : Chosen (slice start end v) c) where
+  module _ (width : ℕ) (e : end - start ≡ width) where
     -- where a byte is no symbol
-    pub bits-none : c ≡ 16 → notAllowed ≡ sizeFor Bits width (slice start end v)
+    pub bits-none : allBelow 9 (slice start end v) ≡ false → notAllowed ≡ sizeFor Bits width (slice start end v)
     unfolding valueAllowed
-    bits-none n =
-        let value : List ℕ = slice start end v in
-        let no : all isSymbol value ≡ false =
-        on-test (all isSymbol value)
-        (λ y. let q : c ≡ commandFor Bits value = h .command ∙ rw y in let b = command-bound Bits value in absurd (omega arith))
-        (λ y. y) in
-        sym (size-refused Bits width value (rw (part-long, eq-eqb (end - start) width e, no)))
+    bits-none n = sym (size-refused Bits width (slice start end v) (rw (part-long, eq-eqb (end - start) width e, symbols-codes (slice start end v) ∙ n)))
 
-    pub bits-given : (c ≡ 16 → ⊥) → (r : ℕ) → r ≡ packedSize (symbolSize c) (end - start) → r ≡ sizeFor Bits width (slice start end v)
+    -- symbols under their command
+    bits-given : allBelow 9 (slice start end v) ≡ true → (c : ℕ) → commandFor Bits (slice start end v) ≡ c
+        → packedSize (symbolSize c) (end - start) ≡ sizeFor Bits width (slice start end v)
     unfolding valueAllowed dataFor
-    bits-given n r er =
+    bits-given nine c q =
         let value : List ℕ = slice start end v in
-        let yes : all isSymbol value ≡ true = on-test (all isSymbol value) (λ y. y) (λ y. absurd (n (h .command ∙ rw y))) in
-        let q : c ≡ commandFor Bits value = h .command ∙ rw yes in
-        let allowed : valueAllowed Bits width value ≡ true = rw (part-long, eq-eqb (end - start) width e, yes) in
-        er ∙ sym (size-given Bits width value allowed ∙ length-packed (commandFor Bits value) value ∙ rw (part-long, ← q))
+        let allowed : valueAllowed Bits width value ≡ true = rw (part-long, eq-eqb (end - start) width e, symbols-codes value ∙ nine) in
+        sym (size-given Bits width value allowed ∙ length-packed (commandFor Bits value) value ∙ rw (q, part-long))
+
+    -- all are one
+    pub bits-same : sameAll (slice start end v) ≡ true → 1 ≤ width → (r : ℕ) → r ≡ (if ltb (codeOf (getD v start 0)) 9 then 0 else notAllowed)
+        → r ≡ sizeFor Bits width (slice start end v)
+    unfolding sameAll packedSize
+    bits-same s n r er =
+        let value : List ℕ = slice start end v in
+        let some : 1 ≤ length value = let l = part-long in omega arith in
+        let es = first-of v start end (omega arith) (p .within) in
+        on-test (ltb (codeOf (getD v start 0)) 9)
+        (λ y.
+        let first : ltb (codeOf (getD value 0 0)) 9 ≡ true = rw es at y in
+        let nine = same-below 9 (getD value 0 0) value s first in
+        let none = rw (no-data (3 + codeOf (getD value 0 0)) (omega arith)) at (bits-given nine (3 + codeOf (getD value 0 0)) (chosen-same value nine s some)) in
+        let zero-is : r ≡ 0 = er ∙ rw y in
+        let small : (0 * (end - start) + 7) / 8 ≡ 0 = omega arith in
+        zero-is ∙ sym small ∙ none)
+        (λ y.
+        let first : ltb (codeOf (getD value 0 0)) 9 ≡ false = rw es at y in
+        let none-is : r ≡ notAllowed = er ∙ rw y in
+        none-is ∙ bits-none (first-below 9 value some first))
+
+    module _ (mixed : sameAll (slice start end v) ≡ false) where
+      pub bits-two : allBelow 2 (slice start end v) ≡ true → (r : ℕ) → r ≡ packedSize 1 (end - start) → r ≡ sizeFor Bits width (slice start end v)
+      unfolding symbolSize
+      bits-two h r er = let nine = below-more 2 9 (omega arith) (slice start end v) h in er ∙ bits-given nine 0 (chosen-0 (slice start end v) nine mixed h)
+
+      pub bits-four : allBelow 2 (slice start end v) ≡ false → allBelow 4 (slice start end v) ≡ true → (r : ℕ) → r ≡ packedSize 2 (end - start)
+          → r ≡ sizeFor Bits width (slice start end v)
+      unfolding symbolSize
+      bits-four l h r er = let nine = below-more 4 9 (omega arith) (slice start end v) h in er ∙ bits-given nine 1 (chosen-1 (slice start end v) nine mixed l h)
+
+      pub bits-nine : allBelow 2 (slice start end v) ≡ false → allBelow 4 (slice start end v) ≡ false → allBelow 9 (slice start end v) ≡ true
+          → (r : ℕ) → r ≡ packedSize 4 (end - start) → r ≡ sizeFor Bits width (slice start end v)
+      unfolding symbolSize
+      bits-nine l f h r er = er ∙ bits-given h 2 (chosen-2 (slice start end v) h mixed l f)
 
   -- ---- integers
 

@@ -17,7 +17,7 @@ use Rattle.lxt_format.specs.declared.Kind.the-variants.{Bits}
 use Rattle.lxt_written.specs.WrittenChanges.{codeOf, commandFor}
 use Rattle.lxt_written.specs.Writing.{isSymbol, valueAllowed}
 use Rattle.lxt_written.specs.CommandLaws.{code-small, command-one, command-0, command-1, command-2, command-bound}
-use Rattle.lxt_pack.specs.Symbols.{allBelow, sameAll, Coded, OneCommand, Chosen}
+use Rattle.lxt_pack.specs.Symbols.{allBelow, sameAll, Coded}
 
 -- ---- one byte
 
@@ -92,7 +92,7 @@ pub symbol-code : (b : ℕ) → isSymbol b ≡ ltb (codeOf b) 9
 unfolding isSymbol codeOf
 symbol-code b = among b symbols []
 
-symbols-codes : (l : List ℕ) → all isSymbol l ≡ allBelow 9 l
+pub symbols-codes : (l : List ℕ) → all isSymbol l ≡ allBelow 9 l
 unfolding all allBelow
 symbols-codes [] = refl
 symbols-codes (x ∷ l) = rw (symbol-code x, symbols-codes l)
@@ -150,57 +150,32 @@ look-same v start end h inside same e = e ∙ ap (λ x. all (λ b. eqb b x) (sli
 
 -- ---- the command
 
-module _ (symbol : ℕ) (yes : Bool) where
-  pub command-one-is : (code : ℕ) → yes ≡ ltb (codeOf symbol) 9 → yes ≡ true → Coded symbol 9 code → code < 16 → OneCommand symbol (3 + code)
-  command-one-is code e y c h =
-      let is : ltb (codeOf symbol) 9 ≡ true = sym e ∙ y in
-      record {
-        one = λ q. ap (λ k. 3 + k) (c (ltb-true (codeOf symbol) 9 is));
-        none = λ q. absurd (true≢false (sym (symbol-code symbol ∙ is) ∙ q));
-        most = omega arith;
-      }
+-- the command of a value, by what is seen of its symbols
+module _ (value : List ℕ) (nine : allBelow 9 value ≡ true) where
+  allowed : valueAllowed Bits (length value) value ≡ true
+  unfolding valueAllowed
+  allowed =
+      both-and (eqb (length value) (length value)) (all isSymbol value) (eq-eqb (length value) (length value) refl) (symbols-codes value ∙ nine)
 
-  pub command-none-is : yes ≡ ltb (codeOf symbol) 9 → yes ≡ false → OneCommand symbol 16
-  command-none-is e n =
-      let is : ltb (codeOf symbol) 9 ≡ false = sym e ∙ n in
-      record {
-        one = λ q. absurd (true≢false (sym q ∙ symbol-code symbol ∙ is));
-        none = λ q. refl;
-        most = omega arith;
-      }
+  pub chosen-same : sameAll value ≡ true → 1 ≤ length value → commandFor Bits value ≡ 3 + codeOf (getD value 0 0)
+  unfolding sameAll
+  chosen-same s n = command-one Bits (length value) value refl allowed (getD value 0 0) n s
 
-module _ (value : List ℕ) where
-  pub choose-none : allBelow 9 value ≡ false → Chosen value 16
-  choose-none h = record { command = rw (symbols-codes value ∙ h); most = omega arith }
+  module _ (mixed : sameAll value ≡ false) where
+    pub chosen-0 : allBelow 2 value ≡ true → commandFor Bits value ≡ 0
+    unfolding sameAll allBelow
+    chosen-0 h = command-0 Bits (length value) value refl allowed mixed h
 
-  module _ (nine : allBelow 9 value ≡ true) where
-    allowed : valueAllowed Bits (length value) value ≡ true
-    unfolding valueAllowed
-    allowed =
-        both-and (eqb (length value) (length value)) (all isSymbol value) (eq-eqb (length value) (length value) refl) (symbols-codes value ∙ nine)
+    pub chosen-1 : allBelow 2 value ≡ false → allBelow 4 value ≡ true → commandFor Bits value ≡ 1
+    unfolding sameAll allBelow
+    chosen-1 l h = command-1 (length value) value allowed mixed l h
 
-    chosen : (c : ℕ) → commandFor Bits value ≡ c → Chosen value c
-    chosen c e = let b = command-bound Bits value in record { command = rw (symbols-codes value ∙ nine) (sym e); most = omega arith }
-
-    pub choose-same : sameAll value ≡ true → 1 ≤ length value → Chosen value (3 + codeOf (getD value 0 0))
-    unfolding sameAll
-    choose-same s n = chosen (3 + codeOf (getD value 0 0)) (command-one Bits (length value) value refl allowed (getD value 0 0) n s)
-
-    module _ (mixed : sameAll value ≡ false) where
-      pub choose-0 : allBelow 2 value ≡ true → Chosen value 0
-      unfolding sameAll allBelow
-      choose-0 h = chosen 0 (command-0 Bits (length value) value refl allowed mixed h)
-
-      pub choose-1 : allBelow 2 value ≡ false → allBelow 4 value ≡ true → Chosen value 1
-      unfolding sameAll allBelow
-      choose-1 l h = chosen 1 (command-1 (length value) value allowed mixed l h)
-
-      pub choose-2 : allBelow 2 value ≡ false → allBelow 4 value ≡ false → Chosen value 2
-      unfolding sameAll allBelow
-      choose-2 l h = chosen 2 (command-2 (length value) value allowed mixed l h)
+    pub chosen-2 : allBelow 2 value ≡ false → allBelow 4 value ≡ false → commandFor Bits value ≡ 2
+    unfolding sameAll allBelow
+    chosen-2 l h = command-2 (length value) value allowed mixed l h
 
 -- codes below a bound are below a greater one
-below-more : (m n : ℕ) → m ≤ n → (value : List ℕ) → allBelow m value ≡ true → allBelow n value ≡ true
+pub below-more : (m n : ℕ) → m ≤ n → (value : List ℕ) → allBelow m value ≡ true → allBelow n value ≡ true
 unfolding allBelow all
 below-more m n h [] e = refl
 below-more m n h (x ∷ l) e =
@@ -208,58 +183,38 @@ below-more m n h (x ∷ l) e =
     both-and (ltb (codeOf x) n) (all (λ b. ltb (codeOf b) n) l) (let k = ltb-true (codeOf x) m (b .0) in lt-ltb (codeOf x) n (omega arith)) (below-more m n h l (b .1))
 
 -- where all are the first, the first decides
-same-below : (m : ℕ) (first : ℕ) (value : List ℕ) → all (λ b. eqb b first) value ≡ true → ltb (codeOf first) m ≡ true → allBelow m value ≡ true
+pub same-below : (m : ℕ) (first : ℕ) (value : List ℕ) → all (λ b. eqb b first) value ≡ true → ltb (codeOf first) m ≡ true → allBelow m value ≡ true
 unfolding allBelow all
 same-below m first [] e h = refl
 same-below m first (x ∷ l) e h =
     let b = and-both (eqb x first) (all (λ b. eqb b first) l) e in
     both-and (ltb (codeOf x) m) (all (λ b. ltb (codeOf b) m) l) (rw (eqb-true x first (b .0)) h) (same-below m first l (b .1) h)
 
-first-below : (m : ℕ) (value : List ℕ) → 1 ≤ length value → ltb (codeOf (getD value 0 0)) m ≡ false → allBelow m value ≡ false
+pub first-below : (m : ℕ) (value : List ℕ) → 1 ≤ length value → ltb (codeOf (getD value 0 0)) m ≡ false → allBelow m value ≡ false
 unfolding allBelow all
 first-below m [] n h = absurd (omega arith)
 first-below m (x ∷ l) n h = rw h
 
--- the command of one symbol
-pub chosen-same : (value : List ℕ) (symbol c : ℕ) → symbol ≡ getD value 0 0 → sameAll value ≡ true → 1 ≤ length value → OneCommand symbol c → Chosen value c
-unfolding sameAll
-chosen-same value symbol c e s n o =
-    on-test (ltb (codeOf (getD value 0 0)) 9)
-    (λ y.
-    let yes : isSymbol symbol ≡ true = rw e (symbol-code (getD value 0 0) ∙ y) in
-    let q : c ≡ 3 + codeOf (getD value 0 0) = o .one yes ∙ rw e in
-    rw q (choose-same value (same-below 9 (getD value 0 0) value s y) s n))
-    (λ y.
-    let no : isSymbol symbol ≡ false = rw e (symbol-code (getD value 0 0) ∙ y) in
-    rw (o .none no) (choose-none value (first-below 9 value n y)))
-
--- bits, or 0 1 Z X, are symbols
-pub chosen-bits : (value : List ℕ) → sameAll value ≡ false → allBelow 2 value ≡ true → Chosen value 0
-chosen-bits value s h = choose-0 value (below-more 2 9 (omega arith) value h) s h
-
-pub chosen-four : (value : List ℕ) → sameAll value ≡ false → allBelow 2 value ≡ false → allBelow 4 value ≡ true → Chosen value 1
-chosen-four value s l h = choose-1 value (below-more 4 9 (omega arith) value h) s l h
-
-pub chosen-nine : (value : List ℕ) → sameAll value ≡ false → allBelow 2 value ≡ false → allBelow 4 value ≡ false → allBelow 9 value ≡ true → Chosen value 2
-chosen-nine value s l f h = choose-2 value h s l f
-
--- of symbols, the command that was chosen is the one that is written
+-- of symbols
 module _ (value : List ℕ) (symbols-are : all isSymbol value ≡ true) where
-  pub chosen-is : (c : ℕ) → Chosen value c → c ≡ commandFor Bits value
-  chosen-is c h = h .command ∙ rw symbols-are
-
-  nine : allBelow 9 value ≡ true
-  nine = sym (symbols-codes value) ∙ symbols-are
+  nine-of : allBelow 9 value ≡ true
+  nine-of = sym (symbols-codes value) ∙ symbols-are
 
   pub same-is : sameAll value ≡ true → 1 ≤ length value → (symbol code : ℕ) → symbol ≡ getD value 0 0 → Coded symbol 9 code → 3 + code ≡ commandFor Bits value
   same-is s n symbol code e c =
       let small : codeOf symbol < 9 = rw e (code-small _ (first-symbol value n symbols-are)) in
       let q : code ≡ codeOf (getD value 0 0) = c small ∙ rw e in
-      chosen-is (3 + code) (rw q (choose-same value nine s n))
+      rw q (sym (chosen-same value nine-of s n))
     where
       first-symbol : (l : List ℕ) → 1 ≤ length l → all isSymbol l ≡ true → isSymbol (getD l 0 0) ≡ true
       first-symbol [] n h = absurd (omega arith)
       first-symbol (x ∷ l) n h = and-both (isSymbol x) (all isSymbol l) (unfold all in h) .0
 
-  pub rest-is : sameAll value ≡ false → allBelow 2 value ≡ false → allBelow 4 value ≡ false → 2 ≡ commandFor Bits value
-  rest-is s l f = chosen-is 2 (choose-2 value nine s l f)
+  pub bits-are : sameAll value ≡ false → allBelow 2 value ≡ true → 0 ≡ commandFor Bits value
+  bits-are s h = sym (chosen-0 value nine-of s h)
+
+  pub four-are : sameAll value ≡ false → allBelow 2 value ≡ false → allBelow 4 value ≡ true → 1 ≡ commandFor Bits value
+  four-are s l h = sym (chosen-1 value nine-of s l h)
+
+  pub nine-are : sameAll value ≡ false → allBelow 2 value ≡ false → allBelow 4 value ≡ false → 2 ≡ commandFor Bits value
+  nine-are s l f = sym (chosen-2 value nine-of s l f)

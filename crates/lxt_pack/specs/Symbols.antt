@@ -19,20 +19,9 @@ allBelow bound value = all (λ b. ltb (codeOf b) bound) value
 unfoldable pub sameAll : List ℕ → Bool
 sameAll value = all (λ b. eqb b (getD value 0 0)) value
 
--- a command that is chosen for a value of bits: 16 where a byte is no symbol
-pub record Chosen (value : List ℕ) (c : ℕ) : Type 0 where
-  pub command : c ≡ (if all isSymbol value then commandFor Bits value else 16)
-  pub most : c ≤ 16
-
 -- the code of a symbol, where it is below a bound
 abbrev pub Coded : ℕ → ℕ → ℕ → Type 0
 Coded symbol bound r = codeOf symbol < bound → r ≡ codeOf symbol
-
--- the command of one symbol, 16 where it is none
-pub record OneCommand (symbol c : ℕ) : Type 0 where
-  pub one : isSymbol symbol ≡ true → c ≡ 3 + codeOf symbol
-  pub none : isSymbol symbol ≡ false → c ≡ 16
-  pub most : c ≤ 18
 
 -- the bytes from `start` up to `end` are symbols
 abbrev pub Symbols : List ℕ → ℕ → ℕ → Type 0

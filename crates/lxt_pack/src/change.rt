@@ -3,11 +3,12 @@ ghost use mathlib.Core.Path.{_≡_};
 ghost use Prim.Native.Nat.{_+_, _*_, _-_, _≤_, _<_};
 ghost use lib.ListN.{length};
 ghost use lib.Seq.{slice};
+ghost use lib.Dec.{ltb};
 ghost use Rattle.lxt_format.specs.Basics.{if_then_else_};
 ghost use Rattle.lxt_format.specs.Buffers.{placed};
 ghost use Rattle.lxt_format.specs.Changes.{symbolSize, packedSize};
 ghost use Rattle.lxt_format.specs.declared.Kind.the-variants.{Bits, Integer, Real, Text};
-ghost use Rattle.lxt_written.specs.WrittenChanges.{fewestBytes, packedSymbols};
+ghost use Rattle.lxt_written.specs.WrittenChanges.{codeOf, fewestBytes, packedSymbols};
 ghost use Rattle.lxt_pack.specs.Change.{Part, WidthFor, notAllowed, sizeFor, Sizes, headOf, Scales, HeadAsked, Held, Sound, Puts};
 use crate::parts;
 use crate::put;
@@ -56,6 +57,16 @@ fn packed_size(b: usize, width: usize) -> usize
 // The answer where a value is not allowed; no value has so many bytes.
 pub const NONE: usize = 0x2_0000_0000;
 
+// The bytes of the data where all symbols are one: none.
+fn size_of_one(symbol: u8) -> usize
+    ensures { λ r. ⌜ (r ≡ (if ltb (codeOf symbol) 9 then 0 else notAllowed)) × (r ≤ notAllowed) ⌝ }
+{
+    if symbols::is_symbol(symbol) {
+        return 0;
+    }
+    NONE
+}
+
 // The bytes of the data of symbols, of which there are to be `width`.
 fn bits_size(width: u64, values: &[u8], start: usize, end: usize) -> usize
     requires { ⌜ Part (now values) start end × (1 ≤ width) × (width ≤ 4096) ⌝ }
@@ -65,11 +76,21 @@ fn bits_size(width: u64, values: &[u8], start: usize, end: usize) -> usize
     if size as u64 != width {
         return NONE;
     }
-    let c = symbols::command(values, start, end);
-    if c == symbols::NONE {
-        return NONE;
+    let seen = symbols::look(values, start, end);
+    if seen.same {
+        return size_of_one(values[start]);
     }
-    packed_size(symbol_size(c), size)
+    if seen.bits {
+        return packed_size(1, size);
+    }
+    let further = symbols::look_further(values, start, end);
+    if further.four {
+        return packed_size(2, size);
+    }
+    if further.nine {
+        return packed_size(4, size);
+    }
+    NONE
 }
 
 // The bytes of the data of an integer: 32 symbols 0 or 1.

@@ -12,7 +12,7 @@ ghost use Rattle.lxt_format.specs.Changes.{packedSize};
 ghost use Rattle.lxt_format.specs.declared.Kind.the-variants.{Bits};
 ghost use Rattle.lxt_written.specs.WrittenChanges.{codeOf, commandFor, packedCodes, pack};
 ghost use Rattle.lxt_written.specs.Writing.{isSymbol};
-ghost use Rattle.lxt_pack.specs.Symbols.{allBelow, sameAll, Coded, OneCommand, Chosen, Symbols, Whole, Size, Holding, Packing};
+ghost use Rattle.lxt_pack.specs.Symbols.{allBelow, sameAll, Coded, Symbols, Whole, Size, Holding, Packing};
 
 // ---- one symbol
 
@@ -29,7 +29,7 @@ fn is_one_of_four(symbol: u8) -> bool
     is_bit(symbol) | ((symbol == b'Z') | (symbol == b'X'))
 }
 
-fn is_symbol(symbol: u8) -> bool
+pub fn is_symbol(symbol: u8) -> bool
     ensures { λ r. ⌜ r ≡ ltb (codeOf symbol) 9 ⌝ }
 {
     (is_one_of_four(symbol) | ((symbol == b'H') | (symbol == b'U')))
@@ -91,7 +91,7 @@ pub struct Further {
     pub nine: bool,
 }
 
-fn look_further(values: &[u8], start: usize, end: usize) -> Further
+pub fn look_further(values: &[u8], start: usize, end: usize) -> Further
     requires { ⌜ (start < end) × (end ≤ length (now values)) ⌝ }
     ensures { λ r. ⌜ (r .four ≡ allBelow 4 (slice start end (now (values .entry)))) × (r .nine ≡ allBelow 9 (slice start end (now (values .entry)))) ⌝ }
 {
@@ -107,41 +107,6 @@ fn look_further(values: &[u8], start: usize, end: usize) -> Further
     Further { four, nine }
 }
 
-// The answer of `command` where a byte is no symbol.
-pub const NONE: u8 = 16;
-
-// The command that says that all symbols are this one.
-fn command_of_one(symbol: u8) -> u8
-    ensures { λ r. ⌜ OneCommand symbol r ⌝ }
-{
-    if is_symbol(symbol) {
-        return 3 + code_of(symbol);
-    }
-    NONE
-}
-
-// The command that holds these symbols in the fewest bytes.
-pub fn command(values: &[u8], start: usize, end: usize) -> u8
-    requires { ⌜ (start < end) × (end ≤ length (now values)) ⌝ }
-    ensures { λ r. ⌜ Chosen (slice start end (now (values .entry))) r ⌝ }
-{
-    let seen = look(values, start, end);
-    if seen.same {
-        return command_of_one(values[start]);
-    }
-    if seen.bits {
-        return 0;
-    }
-    let further = look_further(values, start, end);
-    if further.four {
-        return 1;
-    }
-    if further.nine {
-        return 2;
-    }
-    NONE
-}
-
 fn all_of_four(values: &[u8], start: usize, end: usize) -> bool
     requires { ⌜ (start < end) × (end ≤ length (now values)) ⌝ }
     ensures { λ r. ⌜ r ≡ allBelow 4 (slice start end (now (values .entry))) ⌝ }
@@ -155,8 +120,7 @@ fn all_of_four(values: &[u8], start: usize, end: usize) -> bool
     four
 }
 
-// The same command of bytes that are known to be symbols. Each of the two has one caller, into which the compiler
-// takes it whole.
+// The command that holds symbols in the fewest bytes.
 pub fn command_of_symbols(values: &[u8], start: usize, end: usize) -> u8
     requires { ⌜ (start < end) × (end ≤ length (now values)) × (all isSymbol (slice start end (now values)) ≡ true) ⌝ }
     ensures { λ r. ⌜ r ≡ commandFor Bits (slice start end (now (values .entry))) ⌝ }
