@@ -17,7 +17,7 @@ use Rattle.lxt_format.specs.declared.Kind.the-variants.{Bits}
 use Rattle.lxt_written.specs.WrittenChanges.{codeOf, commandFor}
 use Rattle.lxt_written.specs.Writing.{isSymbol, valueAllowed}
 use Rattle.lxt_written.specs.CommandLaws.{code-small, command-one, command-0, command-1, command-2, command-bound}
-use Rattle.lxt_pack.specs.Symbols.{allBelow, sameAll, Coded}
+use Rattle.lxt_pack.specs.Symbols.{allBelow, sameAll, Lower, Higher, Coded}
 
 -- ---- one byte
 
@@ -134,6 +134,127 @@ module _ (p : ℕ → Bool) (v : List ℕ) (start end : ℕ) where
       let none : slice i end v ≡ [] = rw e (slice-empty end v) in
       sym (and-true found) ∙ (rw none at (w .left))
 
+-- ---- what is seen, by the lowest and the highest
+
+-- two tests are one where each gives the other
+either-way : (a b : Bool) → (a ≡ true → b ≡ true) → (b ≡ true → a ≡ true) → a ≡ b
+either-way true b f g = sym (f refl)
+either-way false true f g = g refl
+either-way false false f g = refl
+
+isBit-range : (b : ℕ) → ltb (codeOf b) 2 ≡ true → (48 ≤ b) × (b ≤ 49)
+isBit-range b h =
+    let q : (eqb b 0x30 || eqb b 0x31) ≡ true = bit-is b ∙ h in
+    on-test (eqb b 0x30)
+    (λ e. let x = eqb-true b 48 e in (omega arith, omega arith))
+    (λ e. let y : eqb b 0x31 ≡ true = rw e at q in let x = eqb-true b 49 y in (omega arith, omega arith))
+
+range-isBit : (b : ℕ) → 48 ≤ b → b ≤ 49 → ltb (codeOf b) 2 ≡ true
+range-isBit b h k =
+    elim (ℕ-discrete b 48) [
+      | yes e ↦ sym (bit-is b) ∙ rw (eq-eqb b 48 e)
+      | no n ↦ sym (bit-is b) ∙ rw (ne-eqb b 48 n, eq-eqb b 49 (omega (arith, n)))
+    ]
+
+-- the symbols from `start` up to i are between two numbers, whose tests are those of the symbols
+pub record Ranged (v : List ℕ) (start end first low high i : ℕ) : Type 0 where
+  pub below : low ≤ first
+  pub above : first ≤ high
+  pub same : Testing (λ b. eqb b first) v start end (eqb low high) i
+  pub bits : Testing (λ b. ltb (codeOf b) 2) v start end (ltb (codeOf low) 2 && ltb (codeOf high) 2) i
+
+module _ (low high symbol low' high' : ℕ) (l : Lower low symbol low') (h : Higher high symbol high') where
+  same-turn : (first : ℕ) → low ≤ first → first ≤ high → eqb low' high' ≡ (eqb low high && eqb symbol first)
+  same-turn first a b =
+      let l0 = l .left in
+      let l1 = l .right in
+      let h0 = h .left in
+      let h1 = h .right in
+      either-way (eqb low' high') (eqb low high && eqb symbol first)
+      (λ e.
+      let x = eqb-true low' high' e in
+      both-and (eqb low high) (eqb symbol first) (eq-eqb low high (omega arith)) (eq-eqb symbol first (omega arith)))
+      (λ e.
+      let q = and-both (eqb low high) (eqb symbol first) e in
+      let x = eqb-true low high (q .0) in
+      let y = eqb-true symbol first (q .1) in
+      let most = l .most low (omega arith) (omega arith) in
+      let least = h .least high (omega arith) (omega arith) in
+      eq-eqb low' high' (omega arith))
+
+  bits-turn : low ≤ high
+      → (ltb (codeOf low') 2 && ltb (codeOf high') 2) ≡ ((ltb (codeOf low) 2 && ltb (codeOf high) 2) && ltb (codeOf symbol) 2)
+  bits-turn a =
+      let l0 = l .left in
+      let l1 = l .right in
+      let h0 = h .left in
+      let h1 = h .right in
+      either-way (ltb (codeOf low') 2 && ltb (codeOf high') 2) ((ltb (codeOf low) 2 && ltb (codeOf high) 2) && ltb (codeOf symbol) 2)
+      (λ e.
+      let q = and-both (ltb (codeOf low') 2) (ltb (codeOf high') 2) e in
+      let x = isBit-range low' (q .0) in
+      let y = isBit-range high' (q .1) in
+      let x0 = x .0 in
+      let y1 = y .1 in
+      both-and (ltb (codeOf low) 2 && ltb (codeOf high) 2) (ltb (codeOf symbol) 2)
+      (both-and (ltb (codeOf low) 2) (ltb (codeOf high) 2) (range-isBit low (omega arith) (omega arith)) (range-isBit high (omega arith) (omega arith)))
+      (range-isBit symbol (omega arith) (omega arith)))
+      (λ e.
+      let q = and-both (ltb (codeOf low) 2 && ltb (codeOf high) 2) (ltb (codeOf symbol) 2) e in
+      let p = and-both (ltb (codeOf low) 2) (ltb (codeOf high) 2) (q .0) in
+      let x = isBit-range low (p .0) in
+      let y = isBit-range high (p .1) in
+      let z = isBit-range symbol (q .1) in
+      let x0 = x .0 in
+      let y1 = y .1 in
+      let z0 = z .0 in
+      let z1 = z .1 in
+      let most = l .most 48 (omega arith) (omega arith) in
+      let least = h .least 49 (omega arith) (omega arith) in
+      both-and (ltb (codeOf low') 2) (ltb (codeOf high') 2) (range-isBit low' (omega arith) (omega arith)) (range-isBit high' (omega arith) (omega arith)))
+
+-- a test with another name
+test-as : (p : ℕ → Bool) (v : List ℕ) (start end : ℕ) (found found' : Bool) (i : ℕ) → found' ≡ found → Testing p v start end found i → Testing p v start end found' i
+test-as p v start end found found' i e w = record { left = rw e (w .left); upto = w .upto }
+
+module _ (v : List ℕ) (start end : ℕ) (some : start < end) (inside : end ≤ length v) where
+  pub ranged-begun : Ranged v start end (getD v start 0) (getD v start 0) (getD v start 0) start
+  unfolding all
+  ranged-begun =
+      let first : ℕ = getD v start 0 in
+      let next : slice start end v ≡ first ∷ slice (suc start) end v = slice-cons start end v 0 some inside in
+      let one = test-begun (λ b. eqb b first) v start end (omega arith) in
+      record {
+        below = omega arith;
+        above = omega arith;
+        same = test-as (λ b. eqb b first) v start end true (eqb first first) start (eq-eqb first first refl) one;
+        bits = record { left = rw next (again (ltb (codeOf first) 2) (all (λ b. ltb (codeOf b) 2) (slice (suc start) end v))); upto = omega arith };
+      }
+    where
+      again : (a b : Bool) → ((a && a) && (a && b)) ≡ (a && b)
+      again true b = refl
+      again false b = refl
+
+  pub ranged-turn : (first low high i low' high' : ℕ) → Ranged v start end first low high i → i < end
+      → Lower low (getD v i 0) low' → Higher high (getD v i 0) high' → Ranged v start end first low' high' (i + 1)
+  ranged-turn first low high i low' high' w less l h =
+      let symbol : ℕ = getD v i 0 in
+      let a = w .below in
+      let b = w .above in
+      let l0 = l .left in
+      let h0 = h .left in
+      record {
+        below = omega arith;
+        above = omega arith;
+        same = test-as (λ b. eqb b first) v start end (eqb low high && eqb symbol first) (eqb low' high') (i + 1)
+            (same-turn low high symbol low' high' l h first a b)
+            (test-turn (λ b. eqb b first) v start end (eqb low high) i (w .same) inside less (eqb symbol first) refl);
+        bits = test-as (λ b. ltb (codeOf b) 2) v start end ((ltb (codeOf low) 2 && ltb (codeOf high) 2) && ltb (codeOf symbol) 2)
+            (ltb (codeOf low') 2 && ltb (codeOf high') 2) (i + 1)
+            (bits-turn low high symbol low' high' l h (omega arith))
+            (test-turn (λ b. ltb (codeOf b) 2) v start end (ltb (codeOf low) 2 && ltb (codeOf high) 2) i (w .bits) inside less (ltb (codeOf symbol) 2) refl);
+      }
+
 -- ---- the first symbol of a part
 
 pub part-some : (v : List ℕ) (start end : ℕ) → start < end → end ≤ length v → 1 ≤ length (slice start end v)
@@ -147,6 +268,17 @@ pub look-same : (v : List ℕ) (start end : ℕ) → start < end → end ≤ len
     → same ≡ sameAll (slice start end v)
 unfolding sameAll
 look-same v start end h inside same e = e ∙ ap (λ x. all (λ b. eqb b x) (slice start end v)) (first-of v start end h inside)
+
+pub ranged-same : (v : List ℕ) (start end : ℕ) → start < end → end ≤ length v → (low high i : ℕ) → Ranged v start end (getD v start 0) low high i → end ≤ i
+    → eqb low high ≡ sameAll (slice start end v)
+ranged-same v start end h inside low high i w over =
+    look-same v start end h inside (eqb low high) (test-ended (λ b. eqb b (getD v start 0)) v start end (eqb low high) i (w .same) over)
+
+pub ranged-bits : (v : List ℕ) (start end first low high i : ℕ) → Ranged v start end first low high i → end ≤ i → (x y : Bool) → x ≡ ltb (codeOf low) 2 → y ≡ ltb (codeOf high) 2
+    → (x && y) ≡ allBelow 2 (slice start end v)
+unfolding allBelow
+ranged-bits v start end first low high i w over x y ex ey =
+    rw (ex, ey) (test-ended (λ b. ltb (codeOf b) 2) v start end (ltb (codeOf low) 2 && ltb (codeOf high) 2) i (w .bits) over)
 
 -- ---- the command
 

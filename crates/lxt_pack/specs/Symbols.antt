@@ -19,6 +19,17 @@ allBelow bound value = all (λ b. ltb (codeOf b) bound) value
 unfoldable pub sameAll : List ℕ → Bool
 sameAll value = all (λ b. eqb b (getD value 0 0)) value
 
+-- the lower of two numbers, and the higher
+pub record Lower (a b r : ℕ) : Type 0 where
+  pub left : r ≤ a
+  pub right : r ≤ b
+  pub most : (k : ℕ) → k ≤ a → k ≤ b → k ≤ r
+
+pub record Higher (a b r : ℕ) : Type 0 where
+  pub left : a ≤ r
+  pub right : b ≤ r
+  pub least : (k : ℕ) → a ≤ k → b ≤ k → r ≤ k
+
 -- the code of a symbol, where it is below a bound
 abbrev pub Coded : ℕ → ℕ → ℕ → Type 0
 Coded symbol bound r = codeOf symbol < bound → r ≡ codeOf symbol

@@ -12,7 +12,7 @@ ghost use Rattle.lxt_format.specs.Changes.{packedSize};
 ghost use Rattle.lxt_format.specs.declared.Kind.the-variants.{Bits};
 ghost use Rattle.lxt_written.specs.WrittenChanges.{codeOf, commandFor, packedCodes, pack};
 ghost use Rattle.lxt_written.specs.Writing.{isSymbol};
-ghost use Rattle.lxt_pack.specs.Symbols.{allBelow, sameAll, Coded, Symbols, Whole, Size, Holding, Packing};
+ghost use Rattle.lxt_pack.specs.Symbols.{allBelow, sameAll, Lower, Higher, Coded, Symbols, Whole, Size, Holding, Packing};
 
 // ---- one symbol
 
@@ -62,27 +62,43 @@ fn code_of(symbol: u8) -> u8
 
 // ---- the command
 
+fn lower(a: u8, b: u8) -> u8
+    ensures { λ r. ⌜ Lower a b r ⌝ }
+{
+    if b < a { b } else { a }
+}
+
+fn higher(a: u8, b: u8) -> u8
+    ensures { λ r. ⌜ Higher a b r ⌝ }
+{
+    if a < b { b } else { a }
+}
+
 // All symbols are the first; all are 0 or 1.
 pub struct Seen {
     pub same: bool,
     pub bits: bool,
 }
 
+// By the lowest and the highest of the symbols, which the compiler finds many at a time.
 pub fn look(values: &[u8], start: usize, end: usize) -> Seen
     requires { ⌜ (start < end) × (end ≤ length (now values)) ⌝ }
     ensures { λ r. ⌜ (r .same ≡ sameAll (slice start end (now (values .entry)))) × (r .bits ≡ allBelow 2 (slice start end (now (values .entry)))) ⌝ }
 {
-    let first = values[start];
-    let mut same = true;
-    let mut bits = true;
+    let mut low = values[start];
+    let mut high = values[start];
     let mut i = start;
     while i < end {
         let symbol = values[i];
-        same = same & (symbol == first);
-        bits = bits & is_bit(symbol);
+        low = lower(low, symbol);
+        high = higher(high, symbol);
         i += 1;
     }
-    Seen { same, bits }
+    let bits = is_bit(low) & is_bit(high);
+    Seen {
+        same: low == high,
+        bits,
+    }
 }
 
 // All are 0, 1, Z or X; all are symbols.
