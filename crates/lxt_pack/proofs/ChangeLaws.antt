@@ -4,7 +4,7 @@ use native.Mathlib.Omega.{arith}
 use native.Mathlib.Nat.{add-zero}
 use native.Mathlib.Decide.{ℕ-discrete}
 use mathlib.Core.Path.{_≡_, refl, sym, ap, _∙_}
-use mathlib.Core.Bool.{Bool, true, false, _&&_}
+use mathlib.Core.Bool.{Bool, true, false, _&&_, true≢false, false≢true}
 use mathlib.Core.List.{List, [], _∷_, _++_, map}
 use lib.ListN.{length, getD, take, set, length-append}
 use lib.Seq.{slice, length-slice, getD-take, getD-drop, set-getD, getD-set-other}
@@ -21,7 +21,7 @@ use Rattle.lxt_written.specs.WrittenChanges.{bigEndian, codeOf, canHold, comman
 use Rattle.lxt_written.specs.Writing.{isSymbol, isBit, valueAllowed}
 use Rattle.lxt_written.specs.CommandLaws.{code-small, length-change, length-packed, value-symbols, value-length, command-bound, command-holds, held-codes}
 use Rattle.lxt_pack.specs.Symbols.{Size, Holding, Packing}
-use Rattle.lxt_pack.specs.Change.{Part, WidthFor, headOf, Scales, HeadAsked, Held, Sound, Puts}
+use Rattle.lxt_pack.specs.Change.{Part, WidthFor, headOf, Scales, HeadAsked, Held, isReal, isText, Sound, Puts}
 use Rattle.lxt_pack.proofs.PutLaws.{stored-two, stored-three, stored-four}
 use Rattle.lxt_pack.proofs.SizeLaws.{one-small, two-small, bits-symbols, integer-command}
 
@@ -330,3 +330,34 @@ sound-of kind k v start end delta out at e s = rw e at s
 
 pub puts-of : (kind k : Kind) (value : List ℕ) (delta : ℕ) (out : List ℕ) (at : ℕ) (two : List ℕ) (r : ℕ) → kind ≡ k → Puts k value delta out at two r → Puts kind value delta out at two r
 puts-of kind k value delta out at two r e p = rw e p
+
+pub real-is : (kind : Kind) → isReal kind ≡ true → kind ≡ Real
+unfolding isReal
+real-is Bits e = absurd (false≢true e)
+real-is Integer e = absurd (false≢true e)
+real-is Real e = refl
+real-is Text e = absurd (false≢true e)
+
+pub text-is : (kind : Kind) → isText kind ≡ true → kind ≡ Text
+unfolding isText
+text-is Bits e = absurd (false≢true e)
+text-is Integer e = absurd (false≢true e)
+text-is Real e = absurd (false≢true e)
+text-is Text e = refl
+
+-- the other two have symbols
+pub by-kind-sound : (kind : Kind) (v : List ℕ) (start end delta : ℕ) (out : List ℕ) (at : ℕ) → isReal kind ≡ false → isText kind ≡ false
+    → Sound kind v start end delta out at → Sound Bits v start end delta out at
+unfolding isReal isText
+by-kind-sound Bits v start end delta out at a b s = s
+by-kind-sound Integer v start end delta out at a b s = integer-sound v start end delta out at s
+by-kind-sound Real v start end delta out at a b s = absurd (true≢false a)
+by-kind-sound Text v start end delta out at a b s = absurd (true≢false b)
+
+pub by-kind-put : (kind : Kind) (v : List ℕ) (start end delta : ℕ) (out : List ℕ) (at : ℕ) → isReal kind ≡ false → isText kind ≡ false
+    → Sound kind v start end delta out at → (two : List ℕ) (r : ℕ) → Puts Bits (slice start end v) delta out at two r → Puts kind (slice start end v) delta out at two r
+unfolding isReal isText
+by-kind-put Bits v start end delta out at a b s two r p = p
+by-kind-put Integer v start end delta out at a b s two r p = integer-put v start end delta out at s two r p
+by-kind-put Real v start end delta out at a b s two r p = absurd (true≢false a)
+by-kind-put Text v start end delta out at a b s two r p = absurd (true≢false b)

@@ -1,7 +1,7 @@
 -- What the functions over one change answer and ask.
 use Prim.Native.Nat.{ℕ, _+_, _*_, _-_, _≤_, _<_}
 use mathlib.Core.Path.{_≡_}
-use mathlib.Core.Bool.{true}
+use mathlib.Core.Bool.{Bool, true, false}
 use mathlib.Core.List.{List, _∷_}
 use lib.ListN.{length}
 use lib.Seq.{slice}
@@ -61,6 +61,18 @@ pub record Held (values : List ℕ) (start end command : ℕ) (out : List ℕ) (
   pub symbols : all isSymbol (slice start end values) ≡ true
   pub holds : canHold Bits (slice start end values) command ≡ true
   pub room : at + packedSize (symbolSize command) (end - start) ≤ length out
+
+unfoldable pub isReal : Kind → Bool
+isReal Bits = false
+isReal Integer = false
+isReal Real = true
+isReal Text = false
+
+unfoldable pub isText : Kind → Bool
+isText Bits = false
+isText Integer = false
+isText Real = false
+isText Text = true
 
 -- a value of this kind that is allowed, with room for its change
 pub record Sound (kind : Kind) (values : List ℕ) (start end delta : ℕ) (out : List ℕ) (at : ℕ) : Type 0 where

@@ -9,7 +9,7 @@ ghost use Rattle.lxt_format.specs.Buffers.{placed};
 ghost use Rattle.lxt_format.specs.Changes.{symbolSize, packedSize};
 ghost use Rattle.lxt_format.specs.declared.Kind.the-variants.{Bits, Integer, Real, Text};
 ghost use Rattle.lxt_written.specs.WrittenChanges.{codeOf, fewestBytes, packedSymbols};
-ghost use Rattle.lxt_pack.specs.Change.{Part, WidthFor, notAllowed, sizeFor, Sizes, headOf, Scales, HeadAsked, Held, Sound, Puts};
+ghost use Rattle.lxt_pack.specs.Change.{Part, WidthFor, notAllowed, sizeFor, Sizes, headOf, Scales, HeadAsked, Held, isReal, isText, Sound, Puts};
 use crate::parts;
 use crate::put;
 use crate::symbols;
@@ -246,7 +246,29 @@ fn put_text(values: &[u8], start: usize, end: usize, delta: u32, out: &mut [u8],
     data + (end - start) + 1
 }
 
-// A change, and where it ends.
+fn is_real(kind: Kind) -> bool
+    ensures { λ r. ⌜ r ≡ isReal kind ⌝ }
+{
+    match kind {
+        Kind::Bits => false,
+        Kind::Integer => false,
+        Kind::Real => true,
+        Kind::Text => false,
+    }
+}
+
+fn is_text(kind: Kind) -> bool
+    ensures { λ r. ⌜ r ≡ isText kind ⌝ }
+{
+    match kind {
+        Kind::Bits => false,
+        Kind::Integer => false,
+        Kind::Real => false,
+        Kind::Text => true,
+    }
+}
+
+// A change, and where it ends. An integer is put as its symbols.
 pub fn put(
     kind: Kind,
     values: &[u8],
@@ -259,10 +281,11 @@ pub fn put(
     requires { ⌜ Sound kind (now values) start end delta (now out) at ⌝ }
     ensures { λ r. ⌜ Puts kind (slice start end (now (values .entry))) delta (now (out .entry)) at (now (out .exit)) r ⌝ }
 {
-    match kind {
-        Kind::Bits => put_bits(values, start, end, delta, out, at),
-        Kind::Integer => put_bits(values, start, end, delta, out, at),
-        Kind::Real => put_real(values, start, end, delta, out, at),
-        Kind::Text => put_text(values, start, end, delta, out, at),
+    if is_real(kind) {
+        return put_real(values, start, end, delta, out, at);
     }
+    if is_text(kind) {
+        return put_text(values, start, end, delta, out, at);
+    }
+    put_bits(values, start, end, delta, out, at)
 }

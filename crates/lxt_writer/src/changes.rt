@@ -11,7 +11,6 @@ use lxt_facilities::facilities::KIND;
 use lxt_facilities::facilities::LSB;
 use lxt_facilities::facilities::MSB;
 use lxt_format::File;
-use lxt_format::Kind;
 use lxt_pack::change;
 use lxt_pack::put;
 
@@ -23,9 +22,6 @@ pub const TIME: usize = 1;
 const VALUE_START: usize = 2;
 
 const VALUE_LENGTH: usize = 3;
-
-// The number of the kind bits, which most facilities have: their changes are told apart first.
-const BITS: u32 = 0;
 
 // The offset of the first change.
 const FIRST: usize = 4;
@@ -55,10 +51,6 @@ fn row_size(facilities: &[[u32; 5]], row: [u32; 4], values: &[u8], last: &[u32],
     }
     let facility = facilities[f];
     let delta = at - last[f] as usize - 2;
-    if facility[KIND] == BITS {
-        let width = facilities::width_of(Kind::Bits, facility[MSB], facility[LSB]);
-        return change::size_of(Kind::Bits, width, values, start, end, delta as u32);
-    }
     let kind = facilities::kind_of(facility[KIND]);
     let width = facilities::width_of(kind, facility[MSB], facility[LSB]);
     change::size_of(kind, width, values, start, end, delta as u32)
@@ -179,9 +171,6 @@ fn put_row(
     let end = start + row[VALUE_LENGTH] as usize;
     let facility = facilities[f];
     let delta = at - last[f] as usize - 2;
-    if facility[KIND] == BITS {
-        return change::put(Kind::Bits, values, start, end, delta as u32, out, at);
-    }
     change::put(
         facilities::kind_of(facility[KIND]),
         values,

@@ -1,10 +1,9 @@
-use mathlib.Core.Path.{refl}
-use lib.ListN.{getD}
-use mir.Val.{Fits}
-use mir.Syntax.{w32}
-use native.Mathlib.Omega.{arith}
-use Rattle.lxt_writer.proofs.RowLaws.{bits-code}
 use Rattle.lxt_writer.proofs.WriteLaws.{asked-known, asked-sound, row-put}
+use native.Mathlib.Omega.{arith}
+use mir.Syntax.{w32}
+use mir.Val.{Fits}
+use lib.ListN.{getD}
+use mathlib.Core.Path.{refl}
 use borrow.Author.Needs.{needs}
 use Rattle.lxt_writer.proofs.changes.put_row.Statement.{statement}
 use Rattle.lxt_writer.proofs.changes.put_row.Tie as tie
@@ -32,7 +31,11 @@ cast-end : tie.Need-cast-end
 cast-end c = search needs
 
 add-end : tie.Need-add-end
-add-end c = let row = c .before .before .before .args .t2 in let a : Fits w32 (getD row 2 0) = search needs in let b : Fits w32 (getD row 3 0) = search needs in omega arith
+add-end c =
+    let row = c .before .before .before .args .t2 in
+    let a : Fits w32 (getD row 2 0) = search needs in
+    let b : Fits w32 (getD row 3 0) = search needs in
+    omega arith
 
 mul-facility : tie.Need-mul-facility
 mul-facility c = let start = c .before .before .before in let known = asked-known _ _ _ _ _ _ (start .pre) in omega arith
@@ -55,38 +58,26 @@ sub-delta c = let start = c .before .before .before .before .before in omega (ar
 sub-delta-2 : tie.Need-sub-delta-2
 sub-delta-2 c = let start = c .before .before .before .before .before in omega (arith, start .pre .free .below (getD (start .args .t2) 0 0))
 
-array-read-if1 : tie.Need-array-read-if1
-array-read-if1 c = search needs
-
-cast-put : tie.Need-cast-put
-cast-put c = let start = c .before .before .before .before .before .before in omega (arith, start .pre .free .most)
-
-put-requires : tie.Need-put-requires
-put-requires c κs = let start = c .before .before .before .before .before .before .before in let b : Fits w32 (getD (start .args .t2) 3 0) = search needs in asked-sound _ _ _ _ _ _ (start .pre) _ _ (bits-code _ (c .before .if1 .taken)) refl (omega arith)
-
-same-length : tie.Need-same-length
-same-length c = search needs
-
-returns : tie.Need-returns
-returns c = let start = c .before .before .before .before .before .before .before .before .before .before in row-put _ _ _ _ _ _ (start .pre) _ _ _ _ (bits-code _ (c .before .before .before .before .if1 .taken)) refl (c .before .before .put .ensures)
-
 array-read-kind-of : tie.Need-array-read-kind-of
 array-read-kind-of c = search needs
 
 kind-of-requires : tie.Need-kind-of-requires
 kind-of-requires c κs = search needs
 
-cast-put-2 : tie.Need-cast-put-2
-cast-put-2 c = let start = c .before .before .before .before .before .before .before in omega (arith, start .pre .free .most)
+cast-put : tie.Need-cast-put
+cast-put c = let start = c .before .before .before .before .before .before in omega (arith, start .pre .free .most)
 
-put-requires-2 : tie.Need-put-requires-2
-put-requires-2 c κs = let start = c .before .before .before .before .before .before .before .before in let b : Fits w32 (getD (start .args .t2) 3 0) = search needs in asked-sound _ _ _ _ _ _ (start .pre) _ _ (c .before .kind-of .ensures) refl (omega arith)
+put-requires : tie.Need-put-requires
+put-requires c κs =
+    let start = c .before .before .before .before .before .before .before in
+    let b : Fits w32 (getD (start .args .t2) 3 0) = search needs in
+    asked-sound _ _ _ _ _ _ (start .pre) _ _ (c .before .kind-of .ensures) refl (omega arith)
 
-same-length-2 : tie.Need-same-length-2
-same-length-2 c = search needs
+same-length : tie.Need-same-length
+same-length c = search needs
 
-returns-2 : tie.Need-returns-2
-returns-2 c = let start = c .before .before .before .before .before .before .before .before .before .before .before in row-put _ _ _ _ _ _ (start .pre) _ _ _ _ (c .before .before .before .before .kind-of .ensures) refl (c .before .before .put2 .ensures)
+returns : tie.Need-returns
+returns c = let start = c .before .before .before .before .before .before .before .before .before .before in row-put _ _ _ _ _ _ (start .pre) _ _ _ _ (c .before .before .before .before .kind-of .ensures) refl (c .before .before .put .ensures)
 
 pub put-row-spec : {M : Type 1} → statement M
 put-row-spec =
@@ -106,14 +97,9 @@ put-row-spec =
     cast-delta
     sub-delta
     sub-delta-2
-    array-read-if1
+    array-read-kind-of
+    kind-of-requires
     cast-put
     put-requires
     same-length
-    returns
-    array-read-kind-of
-    kind-of-requires
-    cast-put-2
-    put-requires-2
-    same-length-2
-    returns-2)
+    returns)

@@ -3,7 +3,7 @@ use lib.ListN.{getD}
 use mir.Val.{Fits}
 use mir.Syntax.{w32}
 use native.Mathlib.Omega.{arith}
-use Rattle.lxt_writer.proofs.RowLaws.{row-outside, row-past, row-sized, width-known, bits-code}
+use Rattle.lxt_writer.proofs.RowLaws.{row-outside, row-past, row-sized, width-known}
 use borrow.Author.Needs.{needs}
 use Rattle.lxt_writer.proofs.changes.row_size.Statement.{statement}
 use Rattle.lxt_writer.proofs.changes.row_size.Tie as tie
@@ -61,8 +61,11 @@ sub-delta c = let start = c .before .before .before .before .before .before in o
 sub-delta-2 : tie.Need-sub-delta-2
 sub-delta-2 c = let start = c .before .before .before .before .before .before in omega (arith, start .pre .1 .below (getD (start .args .t2) 0 0))
 
-array-read-if3 : tie.Need-array-read-if3
-array-read-if3 c = search needs
+array-read-kind-of : tie.Need-array-read-kind-of
+array-read-kind-of c = search needs
+
+kind-of-requires : tie.Need-kind-of-requires
+kind-of-requires c κs = search needs
 
 array-read-width-of : tie.Need-array-read-width-of
 array-read-width-of c = search needs
@@ -77,34 +80,10 @@ cast-size-of : tie.Need-cast-size-of
 cast-size-of c = let start = c .before .before .before .before .before .before .before .before in omega (arith, start .pre .1 .most)
 
 size-of-requires : tie.Need-size-of-requires
-size-of-requires c κs = let start = c .before .before .before .before .before .before .before .before in let known = c .before .before .before .before .before in let inside = c .before .before .before .before in let b : Fits w32 (getD (start .args .t2) 3 0) = search needs in (record { upto = omega arith; within = inside .if2 .left; size = omega arith }, width-known _ _ _ (bits-code _ (c .before .if3 .taken)) (c .width-of .ensures) (start .pre .0 _ (known .if1 .left)))
+size-of-requires c κs = let start = c .before .before .before .before .before .before .before .before in let known = c .before .before .before .before .before in let inside = c .before .before .before .before in let b : Fits w32 (getD (start .args .t2) 3 0) = search needs in (record { upto = omega arith; within = inside .if2 .left; size = omega arith }, width-known _ _ _ (c .before .kind-of .ensures) (c .width-of .ensures) (start .pre .0 _ (known .if1 .left)))
 
 returns-3 : tie.Need-returns-3
-returns-3 c = row-sized _ _ _ _ _ (c .before .before .before .before .before .before .if1 .left) (c .before .before .before .before .before .if2 .left) _ _ _ _ (bits-code _ (c .before .before .if3 .taken)) (c .before .width-of .ensures) refl (c .size-of .ensures .0) (c .size-of .ensures .1)
-
-array-read-kind-of : tie.Need-array-read-kind-of
-array-read-kind-of c = search needs
-
-kind-of-requires : tie.Need-kind-of-requires
-kind-of-requires c κs = search needs
-
-array-read-width-of-3 : tie.Need-array-read-width-of-3
-array-read-width-of-3 c = search needs
-
-array-read-width-of-4 : tie.Need-array-read-width-of-4
-array-read-width-of-4 c = search needs
-
-width-of-requires-2 : tie.Need-width-of-requires-2
-width-of-requires-2 c κs = search needs
-
-cast-size-of-2 : tie.Need-cast-size-of-2
-cast-size-of-2 c = let start = c .before .before .before .before .before .before .before .before .before in omega (arith, start .pre .1 .most)
-
-size-of-requires-2 : tie.Need-size-of-requires-2
-size-of-requires-2 c κs = let start = c .before .before .before .before .before .before .before .before .before in let known = c .before .before .before .before .before .before in let inside = c .before .before .before .before .before in let b : Fits w32 (getD (start .args .t2) 3 0) = search needs in (record { upto = omega arith; within = inside .if2 .left; size = omega arith }, width-known _ _ _ (c .before .kind-of .ensures) (c .width-of2 .ensures) (start .pre .0 _ (known .if1 .left)))
-
-returns-4 : tie.Need-returns-4
-returns-4 c = row-sized _ _ _ _ _ (c .before .before .before .before .before .before .before .if1 .left) (c .before .before .before .before .before .before .if2 .left) _ _ _ _ (c .before .before .kind-of .ensures) (c .before .width-of2 .ensures) refl (c .size-of2 .ensures .0) (c .size-of2 .ensures .1)
+returns-3 c = row-sized _ _ _ _ _ (c .before .before .before .before .before .before .if1 .left) (c .before .before .before .before .before .if2 .left) _ _ _ _ (c .before .before .kind-of .ensures) (c .before .width-of .ensures) refl (c .size-of .ensures .0) (c .size-of .ensures .1)
 
 pub row-size-spec : {M : Type 1} → statement M
 row-size-spec =
@@ -126,18 +105,11 @@ row-size-spec =
     cast-delta
     sub-delta
     sub-delta-2
-    array-read-if3
+    array-read-kind-of
+    kind-of-requires
     array-read-width-of
     array-read-width-of-2
     width-of-requires
     cast-size-of
     size-of-requires
-    returns-3
-    array-read-kind-of
-    kind-of-requires
-    array-read-width-of-3
-    array-read-width-of-4
-    width-of-requires-2
-    cast-size-of-2
-    size-of-requires-2
-    returns-4)
+    returns-3)
