@@ -48,11 +48,6 @@ pub width-known : (facility : List ℕ) (kind : Kind) (width : ℕ) → kind ≡
 unfolding factsFor facilityOf
 width-known facility kind width ek ew h = rw ew (width-for kind (getD facility 3 0) (getD facility 4 0) (rw ek h))
 
--- the kind bits has the number 0
-pub bits-code : (code : ℕ) → code ≡ 0 → Bits ≡ kindOfCode code
-unfolding kindOfCode
-bits-code code e = rw e
-
 -- ---- how many bytes a row takes
 
 -- a row whose facility is none
