@@ -14,7 +14,10 @@ enum-told : tie.Need-enum-told
 enum-told c = search needs
 
 bits-size-requires : tie.Need-bits-size-requires
-bits-size-requires c κs = let start = c .before .before .before in let wide = width-bits _ _ (c .enum-told .given .1) (start .pre .1) in (start .pre .0, wide .0, wide .1)
+bits-size-requires c κs =
+    let start = c .before .before .before in
+    let wide = width-bits _ _ (c .enum-told .given .1) (start .pre .1) in
+    (start .pre .0, wide .0, wide .1)
 
 enum-told-2 : tie.Need-enum-told-2
 enum-told-2 c = search needs
@@ -38,13 +41,22 @@ returns : tie.Need-returns
 returns c = sizes-of _ _ _ _ _ _ (c .before .enum-told .given .1) refl (c .bits-size .ensures)
 
 returns-2 : tie.Need-returns-2
-returns-2 c = let start = c .before .before .before .before in let kind = c .before .enum-told2 .given .1 in sizes-of _ _ _ _ _ _ kind (width-integer _ _ kind (start .pre .1)) (c .integer-size .ensures)
+returns-2 c =
+    let start = c .before .before .before .before in
+    let kind = c .before .enum-told2 .given .1 in
+    sizes-of _ _ _ _ _ _ kind (width-integer _ _ kind (start .pre .1)) (c .integer-size .ensures)
 
 returns-3 : tie.Need-returns-3
-returns-3 c = let start = c .before .before .before .before in let kind = c .before .enum-told3 .given .1 in sizes-of _ _ _ _ _ _ kind (width-real _ _ kind (start .pre .1)) (c .real-size .ensures)
+returns-3 c =
+    let start = c .before .before .before .before in
+    let kind = c .before .enum-told3 .given .1 in
+    sizes-of _ _ _ _ _ _ kind (width-real _ _ kind (start .pre .1)) (c .real-size .ensures)
 
 returns-4 : tie.Need-returns-4
-returns-4 c = let start = c .before .before .before .before in let kind = c .before .enum-told4 .given .1 in sizes-of _ _ _ _ _ _ kind (width-text _ _ kind (start .pre .1)) (c .text-size .ensures)
+returns-4 c =
+    let start = c .before .before .before .before in
+    let kind = c .before .enum-told4 .given .1 in
+    sizes-of _ _ _ _ _ _ kind (width-text _ _ kind (start .pre .1)) (c .text-size .ensures)
 
 pub data-size-spec : {M : Type 1} → statement M
 data-size-spec =

@@ -11,16 +11,22 @@ command-of-symbols-requires : tie.Need-command-of-symbols-requires
 command-of-symbols-requires c κs = let start = c .before .before in bits-some _ _ _ _ _ _ (start .pre)
 
 put-head-requires : tie.Need-put-head-requires
-put-head-requires c κs = let start = c .before .before .before .before in bits-head _ _ _ _ _ _ (start .pre) _ (c .before .command-of-symbols .ensures)
+put-head-requires c κs =
+    let start = c .before .before .before .before in
+    bits-head _ _ _ _ _ _ (start .pre) _ (c .before .command-of-symbols .ensures)
 
 put-symbols-requires : tie.Need-put-symbols-requires
-put-symbols-requires c κs = let start = c .before .before .before .before .before .before .before .before in bits-held _ _ _ _ _ _ (start .pre) _ _ _ (c .before .before .before .before .before .command-of-symbols .ensures) (c .before .before .before .put-head .ensures .1) (c .before .before .before .put-head .ensures .0)
+put-symbols-requires c κs =
+    let start = c .before .before .before .before .before .before .before .before in
+    bits-held _ _ _ _ _ _ (start .pre) _ _ _ (c .before .before .before .before .before .command-of-symbols .ensures) (c .before .before .before .put-head .ensures .1) (c .before .before .before .put-head .ensures .0)
 
 same-length : tie.Need-same-length
 same-length c = search needs
 
 returns : tie.Need-returns
-returns c = let start = c .before .before .before .before .before .before .before .before .before .before .before in bits-put _ _ _ _ _ _ (start .pre) _ _ _ _ _ (c .before .before .before .before .before .before .before .before .command-of-symbols .ensures) (c .before .before .before .before .before .before .put-head .ensures .0) (c .before .before .before .before .before .before .put-head .ensures .1) (c .before .before .put-symbols .ensures .0) (c .before .before .put-symbols .ensures .1)
+returns c =
+    let start = c .before .before .before .before .before .before .before .before .before .before .before in
+    bits-put _ _ _ _ _ _ (start .pre) _ _ _ _ _ (c .before .before .before .before .before .before .before .before .command-of-symbols .ensures) (c .before .before .before .before .before .before .put-head .ensures .0) (c .before .before .before .before .before .before .put-head .ensures .1) (c .before .before .put-symbols .ensures .0) (c .before .before .put-symbols .ensures .1)
 
 pub put-bits-spec : {M : Type 1} → statement M
 put-bits-spec =

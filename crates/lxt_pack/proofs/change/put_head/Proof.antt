@@ -17,10 +17,15 @@ delta-size-requires : tie.Need-delta-size-requires
 delta-size-requires c κs = search needs
 
 scale-of-requires : tie.Need-scale-of-requires
-scale-of-requires c κs = let start = c .before .before in let k = c .delta-size .ensures in (k .1, omega (arith, k .0, small-most _ (start .pre .delta-small)))
+scale-of-requires c κs =
+    let start = c .before .before in
+    let k = c .delta-size .ensures in
+    (k .1, omega (arith, k .0, small-most _ (start .pre .delta-small)))
 
 mul-bytes : tie.Need-mul-bytes
-mul-bytes c = let start = c .before .before .before in omega (arith, scaled-small _ _ _ (start .pre .delta-small) (c .before .delta-size .ensures .0) (c .scale-of .ensures))
+mul-bytes c =
+    let start = c .before .before .before in
+    omega (arith, scaled-small _ _ _ (start .pre .delta-small) (c .before .delta-size .ensures .0) (c .scale-of .ensures))
 
 add-second : tie.Need-add-second
 add-second c = search needs
@@ -50,13 +55,17 @@ slice-write-out : tie.Need-slice-write-out
 slice-write-out c = search needs
 
 cast-out-2 : tie.Need-cast-out-2
-cast-out-2 c = let start = c .before .before .before .before .before in omega (arith, scaled-small _ _ _ (start .pre .delta-small) (c .before .before .before .delta-size .ensures .0) (c .before .before .scale-of .ensures))
+cast-out-2 c =
+    let start = c .before .before .before .before .before in
+    omega (arith, scaled-small _ _ _ (start .pre .delta-small) (c .before .before .before .delta-size .ensures .0) (c .before .before .scale-of .ensures))
 
 add-out-2 : tie.Need-add-out-2
 add-out-2 c = search needs
 
 slice-write-out-2 : tie.Need-slice-write-out-2
-slice-write-out-2 c = let start = c .before .before .before .before .before in simp length-set (omega (arith, start .pre .room))
+slice-write-out-2 c =
+    let start = c .before .before .before .before .before in
+    simp length-set (omega (arith, start .pre .room))
 
 cast-chosen : tie.Need-cast-chosen
 cast-chosen c = search needs
@@ -68,7 +77,9 @@ add-out-3 : tie.Need-add-out-3
 add-out-3 c = search needs
 
 slice-write-out-3 : tie.Need-slice-write-out-3
-slice-write-out-3 c = let start = c .before .before .before .before .before .before in simp length-set (omega (arith, start .pre .room))
+slice-write-out-3 c =
+    let start = c .before .before .before .before .before .before in
+    simp length-set (omega (arith, start .pre .room))
 
 cast-chosen-2 : tie.Need-cast-chosen-2
 cast-chosen-2 c = search needs
@@ -80,7 +91,9 @@ add-out-4 : tie.Need-add-out-4
 add-out-4 c = search needs
 
 slice-write-out-4 : tie.Need-slice-write-out-4
-slice-write-out-4 c = let start = c .before .before .before .before .before .before .before in simp length-set (omega (arith, start .pre .room))
+slice-write-out-4 c =
+    let start = c .before .before .before .before .before .before .before in
+    simp length-set (omega (arith, start .pre .room))
 
 add-result : tie.Need-add-result
 add-result c = search needs
@@ -92,7 +105,10 @@ same-length : tie.Need-same-length
 same-length c = search needs
 
 returns : tie.Need-returns
-returns c = let start = c .before .before .before .before .before .before .before in let k = c .before .before .before .before .before .delta-size .ensures .0 in (head-put (start .args .out .now) (start .args .at) _ _ _ _ _ _ _ _ (start .pre) k (c .before .before .before .before .scale-of .ensures) refl refl (c .before .chosen .ensures) (c .chosen2 .ensures), omega (arith, k))
+returns c =
+    let start = c .before .before .before .before .before .before .before in
+    let k = c .before .before .before .before .before .delta-size .ensures .0 in
+    (head-put (start .args .out .now) (start .args .at) _ _ _ _ _ _ _ _ (start .pre) k (c .before .before .before .before .scale-of .ensures) refl refl (c .before .chosen .ensures) (c .chosen2 .ensures), omega (arith, k))
 
 pub put-head-spec : {M : Type 1} → statement M
 put-head-spec =

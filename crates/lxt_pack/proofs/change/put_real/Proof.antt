@@ -14,19 +14,25 @@ put-head-requires : tie.Need-put-head-requires
 put-head-requires c κs = let start = c .before .before .before in real-head _ _ _ _ _ _ (start .pre)
 
 copy-requires : tie.Need-copy-requires
-copy-requires c κs = let start = c .before .before .before .before .before .before .before in real-copy _ _ _ _ _ _ (start .pre) _ _ (c .before .before .before .put-head .ensures .1) (c .before .before .before .put-head .ensures .0)
+copy-requires c κs =
+    let start = c .before .before .before .before .before .before .before in
+    real-copy _ _ _ _ _ _ (start .pre) _ _ (c .before .before .before .put-head .ensures .1) (c .before .before .before .put-head .ensures .0)
 
 sub-result : tie.Need-sub-result
 sub-result c = search needs
 
 add-result : tie.Need-add-result
-add-result c = let start = c .before .before .before .before .before .before .before .before .before .before in omega (arith, real-room _ _ _ _ _ _ (start .pre) _ (c .before .before .before .before .before .before .put-head .ensures .1))
+add-result c =
+    let start = c .before .before .before .before .before .before .before .before .before .before in
+    omega (arith, real-room _ _ _ _ _ _ (start .pre) _ (c .before .before .before .before .before .before .put-head .ensures .1))
 
 same-length : tie.Need-same-length
 same-length c = search needs
 
 returns : tie.Need-returns
-returns c = let start = c .before .before .before .before .before .before .before .before .before .before in real-put _ _ _ _ _ _ (start .pre) _ _ _ _ (c .before .before .before .before .before .before .put-head .ensures .0) (c .before .before .before .before .before .before .put-head .ensures .1) (c .before .before .copy .ensures) refl
+returns c =
+    let start = c .before .before .before .before .before .before .before .before .before .before in
+    real-put _ _ _ _ _ _ (start .pre) _ _ _ _ (c .before .before .before .before .before .before .put-head .ensures .0) (c .before .before .before .before .before .before .put-head .ensures .1) (c .before .before .copy .ensures) refl
 
 pub put-real-spec : {M : Type 1} → statement M
 put-real-spec =

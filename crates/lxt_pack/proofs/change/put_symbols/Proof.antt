@@ -14,10 +14,14 @@ symbol-size-requires : tie.Need-symbol-size-requires
 symbol-size-requires c κs = search needs
 
 returns : tie.Need-returns
-returns c = let start = c .before .before .before .before in symbols-none _ _ _ _ _ _ _ (start .pre .within) (c .before .symbol-size .ensures .0) (c .if1 .taken)
+returns c =
+    let start = c .before .before .before .before in
+    symbols-none _ _ _ _ _ _ _ (start .pre .within) (c .before .symbol-size .ensures .0) (c .if1 .taken)
 
 pack-requires : tie.Need-pack-requires
-pack-requires c κs = let start = c .before .before .before .before .before in pack-held _ _ _ _ _ _ _ (start .pre) (c .before .before .symbol-size .ensures .0) (c .before .if1 .left)
+pack-requires c κs =
+    let start = c .before .before .before .before .before in
+    pack-held _ _ _ _ _ _ _ (start .pre) (c .before .before .symbol-size .ensures .0) (c .before .if1 .left)
 
 sub-packed-size : tie.Need-sub-packed-size
 sub-packed-size c = search needs
@@ -32,7 +36,11 @@ same-length : tie.Need-same-length
 same-length c = search needs
 
 returns-2 : tie.Need-returns-2
-returns-2 c = let start = c .before .before .before .before .before .before .before .before .before in let a = start .args in let b = c .before .before .before .before .before .before .symbol-size .ensures .0 in (symbols-put (a .values .now) (a .start) _ _ (a .out .now) _ (a .at) _ (start .pre .within) b (c .before .before .before .pack .ensures), omega (arith, packed-by _ _ _ _ b (c .packed-size .ensures .0)))
+returns-2 c =
+    let start = c .before .before .before .before .before .before .before .before .before in
+    let a = start .args in
+    let b = c .before .before .before .before .before .before .symbol-size .ensures .0 in
+    (symbols-put (a .values .now) (a .start) _ _ (a .out .now) _ (a .at) _ (start .pre .within) b (c .before .before .before .pack .ensures), omega (arith, packed-by _ _ _ _ b (c .packed-size .ensures .0)))
 
 pub put-symbols-spec : {M : Type 1} → statement M
 put-symbols-spec =

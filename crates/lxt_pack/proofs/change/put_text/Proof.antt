@@ -14,31 +14,43 @@ put-head-requires : tie.Need-put-head-requires
 put-head-requires c κs = let start = c .before .before .before in text-head _ _ _ _ _ _ (start .pre)
 
 copy-requires : tie.Need-copy-requires
-copy-requires c κs = let start = c .before .before .before .before .before .before .before in text-copy _ _ _ _ _ _ (start .pre) _ _ (c .before .before .before .put-head .ensures .1) (c .before .before .before .put-head .ensures .0)
+copy-requires c κs =
+    let start = c .before .before .before .before .before .before .before in
+    text-copy _ _ _ _ _ _ (start .pre) _ _ (c .before .before .before .put-head .ensures .1) (c .before .before .before .put-head .ensures .0)
 
 sub-one : tie.Need-sub-one
 sub-one c = search needs
 
 add-one : tie.Need-add-one
-add-one c = let start = c .before .before .before .before .before .before .before .before .before .before .before in omega (arith, text-room _ _ _ _ _ _ (start .pre) _ (c .before .before .before .before .before .before .before .put-head .ensures .1))
+add-one c =
+    let start = c .before .before .before .before .before .before .before .before .before .before .before in
+    omega (arith, text-room _ _ _ _ _ _ (start .pre) _ (c .before .before .before .before .before .before .before .put-head .ensures .1))
 
 one-requires : tie.Need-one-requires
-one-requires c κs = let start = c .before .before .before .before .before .before .before .before .before .before .before in omega (arith, text-room _ _ _ _ _ _ (start .pre) _ (c .before .before .before .before .before .before .before .put-head .ensures .1))
+one-requires c κs =
+    let start = c .before .before .before .before .before .before .before .before .before .before .before in
+    omega (arith, text-room _ _ _ _ _ _ (start .pre) _ (c .before .before .before .before .before .before .before .put-head .ensures .1))
 
 sub-result : tie.Need-sub-result
 sub-result c = search needs
 
 add-result : tie.Need-add-result
-add-result c = let start = c .before .before .before .before .before .before .before .before .before .before .before .before .before .before in omega (arith, text-room _ _ _ _ _ _ (start .pre) _ (c .before .before .before .before .before .before .before .before .before .before .put-head .ensures .1))
+add-result c =
+    let start = c .before .before .before .before .before .before .before .before .before .before .before .before .before .before in
+    omega (arith, text-room _ _ _ _ _ _ (start .pre) _ (c .before .before .before .before .before .before .before .before .before .before .put-head .ensures .1))
 
 add-result-2 : tie.Need-add-result-2
-add-result-2 c = let start = c .before .before .before .before .before .before .before .before .before .before .before .before .before .before in omega (arith, text-room _ _ _ _ _ _ (start .pre) _ (c .before .before .before .before .before .before .before .before .before .before .put-head .ensures .1))
+add-result-2 c =
+    let start = c .before .before .before .before .before .before .before .before .before .before .before .before .before .before in
+    omega (arith, text-room _ _ _ _ _ _ (start .pre) _ (c .before .before .before .before .before .before .before .before .before .before .put-head .ensures .1))
 
 same-length : tie.Need-same-length
 same-length c = search needs
 
 returns : tie.Need-returns
-returns c = let start = c .before .before .before .before .before .before .before .before .before .before .before .before .before .before in text-put _ _ _ _ _ _ (start .pre) _ _ _ _ _ (c .before .before .before .before .before .before .before .before .before .before .put-head .ensures .0) (c .before .before .before .before .before .before .before .before .before .before .put-head .ensures .1) (c .before .before .before .before .before .before .copy .ensures) (c .before .before .one .ensures) refl
+returns c =
+    let start = c .before .before .before .before .before .before .before .before .before .before .before .before .before .before in
+    text-put _ _ _ _ _ _ (start .pre) _ _ _ _ _ (c .before .before .before .before .before .before .before .before .before .before .put-head .ensures .0) (c .before .before .before .before .before .before .before .before .before .before .put-head .ensures .1) (c .before .before .before .before .before .before .copy .ensures) (c .before .before .one .ensures) refl
 
 pub put-text-spec : {M : Type 1} → statement M
 put-text-spec =

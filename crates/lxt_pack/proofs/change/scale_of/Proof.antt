@@ -11,7 +11,9 @@ returns-2 : tie.Need-returns-2
 returns-2 c = scales-2 _ (c .if2 .taken)
 
 returns-3 : tie.Need-returns-3
-returns-3 c = let start = c .before .before in scales-3 _ (start .pre .0) (start .pre .1) (c .before .if1 .left) (c .if2 .left)
+returns-3 c =
+    let start = c .before .before in
+    scales-3 _ (start .pre .0) (start .pre .1) (c .before .if1 .left) (c .if2 .left)
 
 pub scale-of-spec : {M : Type 1} → statement M
 scale-of-spec = tie.close (tie.spec returns returns-2 returns-3)

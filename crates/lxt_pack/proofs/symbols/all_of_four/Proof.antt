@@ -33,7 +33,10 @@ loop-less : tie.Need-loop-less Inv-loop μ-loop
 loop-less c = omega arith
 
 loop-again : tie.Need-loop-again Inv-loop μ-loop
-loop-again c = let start = c .before .before .before .before .before in let loop = c .before .before .before .loop in test-turn _ _ _ _ _ _ (loop .inv) (start .pre .1) (c .before .before .loop-test .taken) _ (c .is-one-of-four .ensures)
+loop-again c =
+    let start = c .before .before .before .before .before in
+    let loop = c .before .before .before .loop in
+    test-turn _ _ _ _ _ _ (loop .inv) (start .pre .1) (c .before .before .loop-test .taken) _ (c .is-one-of-four .ensures)
 
 returns : tie.Need-returns Inv-loop μ-loop
 unfolding allBelow

@@ -53,7 +53,9 @@ add-result-3 : tie.Need-add-result-3
 add-result-3 c = search needs
 
 returns : tie.Need-returns
-returns c = let start = c .before .before .before .before .before .before .before .before in code-sum (start .args .symbol) (start .fits .symbol .fits) _ _ _ _ _ _ _ _ (c .before .before .before .before .before .before .before .pick .ensures .0) (c .before .before .before .before .before .before .pick2 .ensures .0) (c .before .before .before .before .before .pick3 .ensures .0) (c .before .before .before .before .pick4 .ensures .0) (c .before .before .before .pick5 .ensures .0) (c .before .before .pick6 .ensures .0) (c .before .pick7 .ensures .0) (c .pick8 .ensures .0)
+returns c =
+    let start = c .before .before .before .before .before .before .before .before in
+    code-sum (start .args .symbol) (start .fits .symbol .fits) _ _ _ _ _ _ _ _ (c .before .before .before .before .before .before .before .pick .ensures .0) (c .before .before .before .before .before .before .pick2 .ensures .0) (c .before .before .before .before .before .pick3 .ensures .0) (c .before .before .before .before .pick4 .ensures .0) (c .before .before .before .pick5 .ensures .0) (c .before .before .pick6 .ensures .0) (c .before .pick7 .ensures .0) (c .pick8 .ensures .0)
 
 pub code-of-spec : {M : Type 1} → statement M
 code-of-spec =

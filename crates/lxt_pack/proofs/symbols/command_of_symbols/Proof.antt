@@ -22,19 +22,31 @@ add-result : tie.Need-add-result
 add-result c = search needs
 
 returns : tie.Need-returns
-returns c = let start = c .before .before .before .before .before in let seen = c .before .before .before .look .ensures in same-is _ (start .pre .2) (sym (seen .0) ∙ c .before .before .if1 .taken) (part-some _ _ _ (start .pre .0) (start .pre .1)) _ _ (first-of _ _ _ (start .pre .0) (start .pre .1)) (c .code-of .ensures .0)
+returns c =
+    let start = c .before .before .before .before .before in
+    let seen = c .before .before .before .look .ensures in
+    same-is _ (start .pre .2) (sym (seen .0) ∙ c .before .before .if1 .taken) (part-some _ _ _ (start .pre .0) (start .pre .1)) _ _ (first-of _ _ _ (start .pre .0) (start .pre .1)) (c .code-of .ensures .0)
 
 returns-2 : tie.Need-returns-2
-returns-2 c = let start = c .before .before .before .before in let seen = c .before .before .look .ensures in bits-are _ (start .pre .2) (sym (seen .0) ∙ c .before .if1 .left) (sym (seen .1) ∙ c .if2 .taken)
+returns-2 c =
+    let start = c .before .before .before .before in
+    let seen = c .before .before .look .ensures in
+    bits-are _ (start .pre .2) (sym (seen .0) ∙ c .before .if1 .left) (sym (seen .1) ∙ c .if2 .taken)
 
 all-of-four-requires : tie.Need-all-of-four-requires
 all-of-four-requires c κs = search needs
 
 returns-3 : tie.Need-returns-3
-returns-3 c = let start = c .before .before .before .before .before .before in let seen = c .before .before .before .before .look .ensures in four-are _ (start .pre .2) (sym (seen .0) ∙ c .before .before .before .if1 .left) (sym (seen .1) ∙ c .before .before .if2 .left) (sym (c .before .all-of-four .ensures) ∙ c .if3 .taken)
+returns-3 c =
+    let start = c .before .before .before .before .before .before in
+    let seen = c .before .before .before .before .look .ensures in
+    four-are _ (start .pre .2) (sym (seen .0) ∙ c .before .before .before .if1 .left) (sym (seen .1) ∙ c .before .before .if2 .left) (sym (c .before .all-of-four .ensures) ∙ c .if3 .taken)
 
 returns-4 : tie.Need-returns-4
-returns-4 c = let start = c .before .before .before .before .before .before in let seen = c .before .before .before .before .look .ensures in nine-are _ (start .pre .2) (sym (seen .0) ∙ c .before .before .before .if1 .left) (sym (seen .1) ∙ c .before .before .if2 .left) (sym (c .before .all-of-four .ensures) ∙ c .if3 .left)
+returns-4 c =
+    let start = c .before .before .before .before .before .before in
+    let seen = c .before .before .before .before .look .ensures in
+    nine-are _ (start .pre .2) (sym (seen .0) ∙ c .before .before .before .if1 .left) (sym (seen .1) ∙ c .before .before .if2 .left) (sym (c .before .all-of-four .ensures) ∙ c .if3 .left)
 
 pub command-of-symbols-spec : {M : Type 1} → statement M
 command-of-symbols-spec =

@@ -19,7 +19,9 @@ code-of-requires : tie.Need-code-of-requires
 code-of-requires c κs = search needs
 
 returns : tie.Need-returns
-returns c = let start = c .before .before .before .before in digit-is _ _ _ _ _ (start .pre .0) (start .pre .1) (start .pre .2) (c .before .before .if1 .taken) (c .code-of .ensures .0)
+returns c =
+    let start = c .before .before .before .before in
+    digit-is _ _ _ _ _ (start .pre .0) (start .pre .1) (start .pre .2) (c .before .before .if1 .taken) (c .code-of .ensures .0)
 
 returns-2 : tie.Need-returns-2
 returns-2 c = search digit-none

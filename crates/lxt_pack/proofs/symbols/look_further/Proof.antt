@@ -19,7 +19,9 @@ abbrev μ-loop : tie.MeasureT-loop
 μ-loop values start end four₀ nine₀ i₀ four nine i = end - i
 
 loop-holds : tie.Need-loop-holds Inv-loop μ-loop
-loop-holds c = let start = c .before in (test-begun _ _ _ _ (omega (arith, start .pre .0)), test-begun _ _ _ _ (omega (arith, start .pre .0)))
+loop-holds c =
+    let start = c .before in
+    (test-begun _ _ _ _ (omega (arith, start .pre .0)), test-begun _ _ _ _ (omega (arith, start .pre .0)))
 
 shared-slice-read-symbol : tie.Need-shared-slice-read-symbol Inv-loop μ-loop
 shared-slice-read-symbol c = search needs
@@ -37,11 +39,18 @@ loop-less : tie.Need-loop-less Inv-loop μ-loop
 loop-less c = omega arith
 
 loop-again : tie.Need-loop-again Inv-loop μ-loop
-loop-again c = let start = c .before .before .before .before .before .before in let loop = c .before .before .before .before .loop in let less = c .before .before .before .loop-test .taken in (test-turn _ _ _ _ _ _ (loop .inv .0) (start .pre .1) less _ (c .before .is-one-of-four .ensures), test-turn _ _ _ _ _ _ (loop .inv .1) (start .pre .1) less _ (c .is-symbol .ensures))
+loop-again c =
+    let start = c .before .before .before .before .before .before in
+    let loop = c .before .before .before .before .loop in
+    let less = c .before .before .before .loop-test .taken in
+    (test-turn _ _ _ _ _ _ (loop .inv .0) (start .pre .1) less _ (c .before .is-one-of-four .ensures), test-turn _ _ _ _ _ _ (loop .inv .1) (start .pre .1) less _ (c .is-symbol .ensures))
 
 returns : tie.Need-returns Inv-loop μ-loop
 unfolding allBelow
-returns c = let loop = c .before .loop in let over = c .loop-test .left in (test-ended _ _ _ _ _ _ (loop .inv .0) over, test-ended _ _ _ _ _ _ (loop .inv .1) over)
+returns c =
+    let loop = c .before .loop in
+    let over = c .loop-test .left in
+    (test-ended _ _ _ _ _ _ (loop .inv .0) over, test-ended _ _ _ _ _ _ (loop .inv .1) over)
 
 pub look-further-spec : {M : Type 1} → statement M
 look-further-spec =

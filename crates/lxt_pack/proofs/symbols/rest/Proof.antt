@@ -27,7 +27,9 @@ mul-sum : tie.Need-mul-sum Inv-loop μ-loop
 mul-sum c = omega (arith, small-product _ _ (sum-small _ _ _ _ _ _ (c .before .loop .inv) (c .before .before .before .before .pre)) (c .before .before .base-of .ensures .1))
 
 digit-requires : tie.Need-digit-requires Inv-loop μ-loop
-digit-requires c κs = let start = c .before .before .before .before in (start .pre .upto, start .pre .within, start .pre .known)
+digit-requires c κs =
+    let start = c .before .before .before .before in
+    (start .pre .upto, start .pre .within, start .pre .known)
 
 cast-sum : tie.Need-cast-sum Inv-loop μ-loop
 cast-sum c = search needs

@@ -38,25 +38,43 @@ add-end c =
     omega arith
 
 mul-facility : tie.Need-mul-facility
-mul-facility c = let start = c .before .before .before in let known = asked-known _ _ _ _ _ _ (start .pre) in omega arith
+mul-facility c =
+    let start = c .before .before .before in
+    let known = asked-known _ _ _ _ _ _ (start .pre) in
+    omega arith
 
 shared-slice-copy-out-facility : tie.Need-shared-slice-copy-out-facility
-shared-slice-copy-out-facility c = let start = c .before .before .before in let known = asked-known _ _ _ _ _ _ (start .pre) in omega arith
+shared-slice-copy-out-facility c =
+    let start = c .before .before .before in
+    let known = asked-known _ _ _ _ _ _ (start .pre) in
+    omega arith
 
 mul-delta : tie.Need-mul-delta
-mul-delta c = let start = c .before .before .before .before in let known = asked-known _ _ _ _ _ _ (start .pre) in omega (arith, start .pre .free .long)
+mul-delta c =
+    let start = c .before .before .before .before in
+    let known = asked-known _ _ _ _ _ _ (start .pre) in
+    omega (arith, start .pre .free .long)
 
 shared-slice-read-delta : tie.Need-shared-slice-read-delta
-shared-slice-read-delta c = let start = c .before .before .before .before .before in let known = asked-known _ _ _ _ _ _ (start .pre) in omega (arith, start .pre .free .long)
+shared-slice-read-delta c =
+    let start = c .before .before .before .before .before in
+    let known = asked-known _ _ _ _ _ _ (start .pre) in
+    omega (arith, start .pre .free .long)
 
 cast-delta : tie.Need-cast-delta
-cast-delta c = let start = c .before .before .before .before .before in omega (arith, start .pre .free .below (getD (start .args .t2) 0 0), start .pre .free .most)
+cast-delta c =
+    let start = c .before .before .before .before .before in
+    omega (arith, start .pre .free .below (getD (start .args .t2) 0 0), start .pre .free .most)
 
 sub-delta : tie.Need-sub-delta
-sub-delta c = let start = c .before .before .before .before .before in omega (arith, start .pre .free .below (getD (start .args .t2) 0 0))
+sub-delta c =
+    let start = c .before .before .before .before .before in
+    omega (arith, start .pre .free .below (getD (start .args .t2) 0 0))
 
 sub-delta-2 : tie.Need-sub-delta-2
-sub-delta-2 c = let start = c .before .before .before .before .before in omega (arith, start .pre .free .below (getD (start .args .t2) 0 0))
+sub-delta-2 c =
+    let start = c .before .before .before .before .before in
+    omega (arith, start .pre .free .below (getD (start .args .t2) 0 0))
 
 array-read-kind-of : tie.Need-array-read-kind-of
 array-read-kind-of c = search needs
@@ -77,7 +95,9 @@ same-length : tie.Need-same-length
 same-length c = search needs
 
 returns : tie.Need-returns
-returns c = let start = c .before .before .before .before .before .before .before .before .before .before in row-put _ _ _ _ _ _ (start .pre) _ _ _ _ (c .before .before .before .before .kind-of .ensures) refl (c .before .before .put .ensures)
+returns c =
+    let start = c .before .before .before .before .before .before .before .before .before .before in
+    row-put _ _ _ _ _ _ (start .pre) _ _ _ _ (c .before .before .before .before .kind-of .ensures) refl (c .before .before .put .ensures)
 
 pub put-row-spec : {M : Type 1} → statement M
 put-row-spec =

@@ -35,7 +35,11 @@ cast-end : tie.Need-cast-end
 cast-end c = search needs
 
 add-end : tie.Need-add-end
-add-end c = let row = c .before .before .before .args .t2 in let a : Fits w32 (getD row 2 0) = search needs in let b : Fits w32 (getD row 3 0) = search needs in omega arith
+add-end c =
+    let row = c .before .before .before .args .t2 in
+    let a : Fits w32 (getD row 2 0) = search needs in
+    let b : Fits w32 (getD row 3 0) = search needs in
+    omega arith
 
 returns-2 : tie.Need-returns-2
 returns-2 c = row-past _ _ _ _ _ (c .if2 .taken)
@@ -53,13 +57,19 @@ shared-slice-read-delta : tie.Need-shared-slice-read-delta
 shared-slice-read-delta c = search needs
 
 cast-delta : tie.Need-cast-delta
-cast-delta c = let start = c .before .before .before .before .before .before in omega (arith, start .pre .1 .below (getD (start .args .t2) 0 0), start .pre .1 .most)
+cast-delta c =
+    let start = c .before .before .before .before .before .before in
+    omega (arith, start .pre .1 .below (getD (start .args .t2) 0 0), start .pre .1 .most)
 
 sub-delta : tie.Need-sub-delta
-sub-delta c = let start = c .before .before .before .before .before .before in omega (arith, start .pre .1 .below (getD (start .args .t2) 0 0))
+sub-delta c =
+    let start = c .before .before .before .before .before .before in
+    omega (arith, start .pre .1 .below (getD (start .args .t2) 0 0))
 
 sub-delta-2 : tie.Need-sub-delta-2
-sub-delta-2 c = let start = c .before .before .before .before .before .before in omega (arith, start .pre .1 .below (getD (start .args .t2) 0 0))
+sub-delta-2 c =
+    let start = c .before .before .before .before .before .before in
+    omega (arith, start .pre .1 .below (getD (start .args .t2) 0 0))
 
 array-read-kind-of : tie.Need-array-read-kind-of
 array-read-kind-of c = search needs
@@ -77,10 +87,17 @@ width-of-requires : tie.Need-width-of-requires
 width-of-requires c κs = search needs
 
 cast-size-of : tie.Need-cast-size-of
-cast-size-of c = let start = c .before .before .before .before .before .before .before .before in omega (arith, start .pre .1 .most)
+cast-size-of c =
+    let start = c .before .before .before .before .before .before .before .before in
+    omega (arith, start .pre .1 .most)
 
 size-of-requires : tie.Need-size-of-requires
-size-of-requires c κs = let start = c .before .before .before .before .before .before .before .before in let known = c .before .before .before .before .before in let inside = c .before .before .before .before in let b : Fits w32 (getD (start .args .t2) 3 0) = search needs in (record { upto = omega arith; within = inside .if2 .left; size = omega arith }, width-known _ _ _ (c .before .kind-of .ensures) (c .width-of .ensures) (start .pre .0 _ (known .if1 .left)))
+size-of-requires c κs =
+    let start = c .before .before .before .before .before .before .before .before in
+    let known = c .before .before .before .before .before in
+    let inside = c .before .before .before .before in
+    let b : Fits w32 (getD (start .args .t2) 3 0) = search needs in
+    (record { upto = omega arith; within = inside .if2 .left; size = omega arith }, width-known _ _ _ (c .before .kind-of .ensures) (c .width-of .ensures) (start .pre .0 _ (known .if1 .left)))
 
 returns-3 : tie.Need-returns-3
 returns-3 c = row-sized _ _ _ _ _ (c .before .before .before .before .before .before .if1 .left) (c .before .before .before .before .before .if2 .left) _ _ _ _ (c .before .before .kind-of .ensures) (c .before .width-of .ensures) refl (c .size-of .ensures .0) (c .size-of .ensures .1)
