@@ -4,24 +4,24 @@ use native.Mathlib.Omega.{arith}
 use native.Mathlib.Nat.{add-zero}
 use native.Mathlib.Decide.{ℕ-discrete}
 use mathlib.Core.Path.{_≡_, refl, sym, ap, _∙_}
-use mathlib.Core.Bool.{Bool, true, false, _&&_, true≢false, false≢true}
+use mathlib.Core.Bool.{Bool, true, false, true≢false, false≢true}
 use mathlib.Core.List.{List, [], _∷_, _++_, map}
 use lib.ListN.{length, getD, take, set, length-append}
 use lib.Seq.{slice, length-slice, getD-take, getD-drop, set-getD, getD-set-other}
 use lib.Dec.{ltb, eqb}
 use borrow.Author.Tests.{ltb-true, eqb-true, eq-eqb, ne-eqb}
 use Rattle.lxt_format.specs.Basics.{if_then_else_, all}
-use Rattle.lxt_format.specs.BasicsLaws.{on-test, and-both, both-and}
+use Rattle.lxt_format.specs.BasicsLaws.{and-both, both-and}
 use Rattle.lxt_format.specs.Buffers.{placed, length-placed, placed-none, placed-more}
 use Rattle.lxt_format.specs.Changes.{symbolSize, packedSize}
 use Rattle.lxt_format.specs.declared.Kind.{Kind}
 use Rattle.lxt_format.specs.declared.Kind.the-variants.{Bits, Integer, Real, Text}
 use Rattle.lxt_written.specs.Stands.{length-bigEndian}
-use Rattle.lxt_written.specs.WrittenChanges.{bigEndian, codeOf, canHold, commandFor, pack, packedSymbols, dataFor, fewestBytes, changeBytes}
+use Rattle.lxt_written.specs.WrittenChanges.{bigEndian, codeOf, commandFor, pack, packedSymbols, dataFor, fewestBytes, changeBytes}
 use Rattle.lxt_written.specs.Writing.{isSymbol, isBit, valueAllowed}
 use Rattle.lxt_written.specs.CommandLaws.{code-small, length-change, length-packed, value-symbols, value-length, command-bound, command-holds, held-codes}
-use Rattle.lxt_pack.specs.Symbols.{Size, Holding, Packing}
-use Rattle.lxt_pack.specs.Change.{Part, WidthFor, headOf, Scales, HeadAsked, Held, isReal, isText, Sound, Puts}
+use Rattle.lxt_pack.specs.Symbols.{Size, Packing}
+use Rattle.lxt_pack.specs.Change.{headOf, Scales, HeadAsked, Held, isReal, isText, Sound, Puts}
 use Rattle.lxt_pack.proofs.PutLaws.{stored-two, stored-three, stored-four}
 use Rattle.lxt_pack.proofs.SizeLaws.{one-small, two-small, bits-symbols, integer-command}
 

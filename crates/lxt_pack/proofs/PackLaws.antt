@@ -1,15 +1,15 @@
 -- Laws of symbols that are packed into bytes.
-use Prim.Native.Nat.{ℕ, zero, suc, _+_, _*_, _-_, _/_, _%_, _^_, _≤_, _<_, max}
+use Prim.Native.Nat.{ℕ, zero, suc, _+_, _*_, _-_, _/_, _%_, _^_, _≤_, _<_}
 use native.Mathlib.Nat.{add-zero, add-mul, mul-assoc, mul-comm, mul-suc, mul-zero, mul-le-mul, le-refl}
 use native.Mathlib.Omega.{arith}
 use native.Mathlib.Numerals.{add-one}
 use mathlib.Core.Path.{_≡_, refl, sym, ap, _∙_}
-use mathlib.Core.Bool.{Bool, true, false, _&&_, _||_}
-use mathlib.Core.List.{List, [], _∷_, _++_, map}
-use lib.ListN.{length, getD, set, take, drop, length-set, length-append, length-take, drop-of-length-le}
+use mathlib.Core.Bool.{true, _&&_, _||_}
+use mathlib.Core.List.{List, [], _∷_, map}
+use lib.ListN.{length, getD, set, take, drop, length-set, length-take, drop-of-length-le}
 use lib.Pow.{pow-pos, pow-add}
 use native.Mathlib.Decide.{decLe}
-use lib.Seq.{slice, slice-cons, slice-empty, length-slice, drop-drop}
+use lib.Seq.{slice, slice-cons, slice-empty, drop-drop}
 use Rattle.lxt_format.specs.Buffers.{placed, placed-none}
 use Rattle.lxt_pack.proofs.PutLaws.{stored-one, placed-next}
 use lib.Dec.{leb, ltb, eqb, lit<, lit≤}

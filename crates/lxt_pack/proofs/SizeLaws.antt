@@ -1,28 +1,25 @@
 -- Laws of how many bytes a change takes.
-use Prim.Native.Nat.{ℕ, zero, suc, _+_, _*_, _-_, _/_, _^_, _≤_, _<_}
+use Prim.Native.Nat.{ℕ, zero, suc, _+_, _*_, _-_, _/_, _≤_, _<_}
 use native.Mathlib.Omega.{arith}
 use native.Mathlib.Nat.{mul-le-mul}
 use mathlib.Core.Path.{_≡_, refl, sym, ap, _∙_}
-use mathlib.Core.Bool.{Bool, true, false, not, _&&_, _||_, true≢false, false≢true}
-use mathlib.Core.List.{List, [], _∷_, _++_}
+use mathlib.Core.Bool.{Bool, true, false, not, _||_}
+use mathlib.Core.List.{List, [], _∷_}
 use lib.ListN.{length, getD, length-append}
 use lib.Seq.{slice, length-slice}
-use lib.Dec.{leb, ltb, eqb, lit<}
-use native.Mathlib.Decide.{ℕ-discrete, decLe}
-use borrow.Author.Tests.{lt-ltb, le-ltb, eq-eqb, ne-eqb, eqb-true, ltb-true}
+use lib.Dec.{ltb, eqb}
+use native.Mathlib.Decide.{decLe}
+use borrow.Author.Tests.{lt-ltb, le-ltb, eq-eqb, ne-eqb}
 use Rattle.lxt_format.specs.Basics.{if_then_else_, all, any}
-use Rattle.lxt_format.specs.Reals.{placeOf}
-use Rattle.lxt_format.specs.Values.{symbolOf}
 use Rattle.lxt_format.specs.BasicsLaws.{on-test, both-and, and-both}
 use Rattle.lxt_format.specs.Changes.{symbolSize, packedSize}
-use Rattle.lxt_format.specs.Geometry.{widthBetween, factsBy}
 use Rattle.lxt_format.specs.declared.Kind.{Kind}
 use Rattle.lxt_format.specs.declared.Kind.the-variants.{Bits, Integer, Real, Text}
-use Rattle.lxt_written.specs.WrittenChanges.{codeOf, canHold, commandFor, packedSymbols, dataFor, fewestBytes}
+use Rattle.lxt_written.specs.WrittenChanges.{codeOf, commandFor, dataFor, fewestBytes}
 use Rattle.lxt_written.specs.Writing.{noZero, isSymbol, isBit, valueAllowed}
-use Rattle.lxt_written.specs.CommandLaws.{length-packed, value-symbols, integer-codes, command-one, command-0, bit-symbol, bit-code, command-bound, command-holds, held-one, held-codes, no-data}
+use Rattle.lxt_written.specs.CommandLaws.{length-packed, integer-codes, command-one, command-0, bit-symbol, no-data}
 use Rattle.lxt_pack.specs.Symbols.{allBelow, sameAll}
-use Rattle.lxt_pack.proofs.SymbolLaws.{bit-is, symbols-codes, below-more, same-below, first-below, first-of, chosen-same, chosen-0, chosen-1, chosen-2}
+use Rattle.lxt_pack.proofs.SymbolLaws.{bit-is, symbols-codes, below-more, chosen-same, chosen-0, chosen-1, chosen-2}
 use Rattle.lxt_pack.specs.Change.{Part, WidthFor, notAllowed, sizeFor, Sizes, Scales}
 
 -- ---- deltas
@@ -170,6 +167,27 @@ module _ (value : List ℕ) (some : 1 ≤ length value) where
 
 -- ---- values
 
+pub each-most : (x y z : ℕ) → x ≤ 1 → y ≤ 1 → z ≤ 1 → (1 + x + 2 * y) * z ≤ 4
+each-most x y z hx hy hz = let sum : 1 + x + 2 * y ≤ 4 = omega arith in mul-le-mul sum hz
+
+-- the bits of a symbol, by what is seen of all: all are one, all are 0 or 1, all are 0 1 Z X
+unfoldable bitsEach : Bool → Bool → Bool → ℕ
+bitsEach same bits four = if same then 0 else (if bits then 1 else (if four then 2 else 4))
+
+each-of-two : (same four : Bool) (x : ℕ) → x ≡ (if not same then 1 else 0) → x ≡ bitsEach same true four
+unfolding bitsEach
+each-of-two true four x e = e
+each-of-two false four x e = e
+
+-- counted without a branch
+each-sum : (same bits four : Bool) → (bits ≡ true → four ≡ true) → (x y z : ℕ) → x ≡ (if not bits then 1 else 0) → y ≡ (if not four then 1 else 0)
+    → z ≡ (if not same then 1 else 0) → (1 + x + 2 * y) * z ≡ bitsEach same bits four
+unfolding bitsEach
+each-sum true bits four h x y z ex ey ez = rw (ez) (omega arith)
+each-sum false true four h x y z ex ey ez = rw (ex, ey, ez, h refl)
+each-sum false false true h x y z ex ey ez = rw (ex, ey, ez)
+each-sum false false false h x y z ex ey ez = rw (ex, ey, ez)
+
 -- a value that is allowed has the bytes of its data, one that is not has none
 size-given : (kind : Kind) (width : ℕ) (value : List ℕ) → valueAllowed kind width value ≡ true → sizeFor kind width value ≡ length (dataFor kind value)
 unfolding sizeFor
@@ -205,41 +223,62 @@ module _ (v : List ℕ) (start end : ℕ) (p : Part v start end) where
         let allowed : valueAllowed Bits width value ≡ true = rw (part-long, eq-eqb (end - start) width e, symbols-codes value ∙ nine) in
         sym (size-given Bits width value allowed ∙ length-packed (commandFor Bits value) value ∙ rw (q, part-long))
 
-    -- all are one
-    pub bits-same : sameAll (slice start end v) ≡ true → 1 ≤ width → (r : ℕ) → r ≡ (if ltb (codeOf (getD v start 0)) 9 then 0 else notAllowed)
-        → r ≡ sizeFor Bits width (slice start end v)
-    unfolding sameAll packedSize
-    bits-same s n r er =
+    module _ (nine : allBelow 9 (slice start end v) ≡ true) where
+      -- all are one
+      bits-same : sameAll (slice start end v) ≡ true → 1 ≤ width → packedSize 0 (end - start) ≡ sizeFor Bits width (slice start end v)
+      bits-same s n =
+          let value : List ℕ = slice start end v in
+          let some : 1 ≤ length value = let l = part-long in omega arith in
+          let command : ℕ = 3 + codeOf (getD value 0 0) in
+          rw (no-data command (omega arith)) at (bits-given nine command (chosen-same value nine s some))
+
+      module _ (mixed : sameAll (slice start end v) ≡ false) where
+        bits-two : allBelow 2 (slice start end v) ≡ true → packedSize 1 (end - start) ≡ sizeFor Bits width (slice start end v)
+        unfolding symbolSize
+        bits-two h = bits-given nine 0 (chosen-0 (slice start end v) nine mixed h)
+
+        module _ (more : allBelow 2 (slice start end v) ≡ false) where
+          bits-four : allBelow 4 (slice start end v) ≡ true → packedSize 2 (end - start) ≡ sizeFor Bits width (slice start end v)
+          unfolding symbolSize
+          bits-four h = bits-given nine 1 (chosen-1 (slice start end v) nine mixed more h)
+
+          bits-nine : allBelow 4 (slice start end v) ≡ false → packedSize 4 (end - start) ≡ sizeFor Bits width (slice start end v)
+          unfolding symbolSize
+          bits-nine h = bits-given nine 2 (chosen-2 (slice start end v) nine mixed more h)
+
+      -- by what is seen
+      bits-each : 1 ≤ width → packedSize (bitsEach (sameAll (slice start end v)) (allBelow 2 (slice start end v)) (allBelow 4 (slice start end v))) (end - start) ≡ sizeFor Bits width (slice start end v)
+      unfolding bitsEach
+      bits-each n =
+          let value : List ℕ = slice start end v in
+          on-test (sameAll value)
+          (λ s. rw s (bits-same s n))
+          (λ s.
+          on-test (allBelow 2 value)
+          (λ t. rw (s, t) (bits-two s t))
+          (λ t. on-test (allBelow 4 value) (λ f. rw (s, t, f) (bits-four s t f)) (λ f. rw (s, t, f) (bits-nine s t f))))
+
+    -- bits, of which it is seen whether all are one
+    pub bits-of-two : 1 ≤ width → (same bits : Bool) → same ≡ sameAll (slice start end v) → bits ≡ allBelow 2 (slice start end v) → bits ≡ true
+        → (x r : ℕ) → x ≡ (if not same then 1 else 0) → r ≡ packedSize x (end - start) → r ≡ sizeFor Bits width (slice start end v)
+    bits-of-two n same bits es eb h x r ex er =
         let value : List ℕ = slice start end v in
-        let some : 1 ≤ length value = let l = part-long in omega arith in
-        let es = first-of v start end (omega arith) (p .within) in
-        on-test (ltb (codeOf (getD v start 0)) 9)
-        (λ y.
-        let first : ltb (codeOf (getD value 0 0)) 9 ≡ true = rw es at y in
-        let nine = same-below 9 (getD value 0 0) value s first in
-        let none = rw (no-data (3 + codeOf (getD value 0 0)) (omega arith)) at (bits-given nine (3 + codeOf (getD value 0 0)) (chosen-same value nine s some)) in
-        let zero-is : r ≡ 0 = er ∙ rw y in
-        let small : (0 * (end - start) + 7) / 8 ≡ 0 = omega arith in
-        zero-is ∙ sym small ∙ none)
-        (λ y.
-        let first : ltb (codeOf (getD value 0 0)) 9 ≡ false = rw es at y in
-        let none-is : r ≡ notAllowed = er ∙ rw y in
-        none-is ∙ bits-none (first-below 9 value some first))
+        let two = sym eb ∙ h in
+        let x-is = each-of-two same (allBelow 4 value) x ex in
+        let b : x ≡ bitsEach (sameAll value) (allBelow 2 value) (allBelow 4 value) = rw (← es, two) x-is in
+        er ∙ ap (λ k. packedSize k (end - start)) b ∙ bits-each (below-more 2 9 (omega arith) value two) n
 
-    module _ (mixed : sameAll (slice start end v) ≡ false) where
-      pub bits-two : allBelow 2 (slice start end v) ≡ true → (r : ℕ) → r ≡ packedSize 1 (end - start) → r ≡ sizeFor Bits width (slice start end v)
-      unfolding symbolSize
-      bits-two h r er = let nine = below-more 2 9 (omega arith) (slice start end v) h in er ∙ bits-given nine 0 (chosen-0 (slice start end v) nine mixed h)
-
-      pub bits-four : allBelow 2 (slice start end v) ≡ false → allBelow 4 (slice start end v) ≡ true → (r : ℕ) → r ≡ packedSize 2 (end - start)
-          → r ≡ sizeFor Bits width (slice start end v)
-      unfolding symbolSize
-      bits-four l h r er = let nine = below-more 4 9 (omega arith) (slice start end v) h in er ∙ bits-given nine 1 (chosen-1 (slice start end v) nine mixed l h)
-
-      pub bits-nine : allBelow 2 (slice start end v) ≡ false → allBelow 4 (slice start end v) ≡ false → allBelow 9 (slice start end v) ≡ true
-          → (r : ℕ) → r ≡ packedSize 4 (end - start) → r ≡ sizeFor Bits width (slice start end v)
-      unfolding symbolSize
-      bits-nine l f h r er = er ∙ bits-given h 2 (chosen-2 (slice start end v) h mixed l f)
+    -- symbols, of which all is seen
+    pub bits-seen : 1 ≤ width → (same bits four nine : Bool) → same ≡ sameAll (slice start end v) → bits ≡ allBelow 2 (slice start end v)
+        → four ≡ allBelow 4 (slice start end v) → nine ≡ allBelow 9 (slice start end v) → nine ≡ true
+        → (x y z r : ℕ) → x ≡ (if not bits then 1 else 0) → y ≡ (if not four then 1 else 0) → z ≡ (if not same then 1 else 0)
+        → r ≡ packedSize ((1 + x + 2 * y) * z) (end - start) → r ≡ sizeFor Bits width (slice start end v)
+    bits-seen n same bits four nine es eb ef en h x y z r ex ey ez er =
+        let value : List ℕ = slice start end v in
+        let more : bits ≡ true → four ≡ true = λ t. ef ∙ below-more 2 4 (omega arith) value (sym eb ∙ t) in
+        let sum = each-sum same bits four more x y z ex ey ez in
+        let b : (1 + x + 2 * y) * z ≡ bitsEach (sameAll value) (allBelow 2 value) (allBelow 4 value) = rw (← es, ← eb, ← ef) sum in
+        er ∙ ap (λ k. packedSize k (end - start)) b ∙ bits-each (sym en ∙ h) n
 
   -- ---- integers
 

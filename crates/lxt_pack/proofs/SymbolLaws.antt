@@ -2,11 +2,11 @@
 use Prim.Native.Nat.{ℕ, zero, suc, _+_, _≤_, _<_}
 use native.Mathlib.Omega.{arith}
 use mathlib.Core.Path.{_≡_, refl, sym, ap, _∙_}
-use mathlib.Core.Bool.{Bool, true, false, _&&_, _||_, true≢false}
+use mathlib.Core.Bool.{Bool, true, false, not, _&&_, _||_}
 use mathlib.Core.List.{List, [], _∷_, _++_}
 use lib.ListN.{length, getD, take, drop}
 use lib.Seq.{slice, slice-cons, slice-empty, length-slice}
-use lib.Dec.{leb, ltb, eqb}
+use lib.Dec.{ltb, eqb}
 use native.Mathlib.Decide.{ℕ-discrete, decLe}
 use borrow.Author.Tests.{lt-ltb, le-ltb, eq-eqb, ne-eqb, eqb-true, ltb-true}
 use Rattle.lxt_format.specs.Basics.{if_then_else_, all, any}
@@ -16,8 +16,8 @@ use Rattle.lxt_format.specs.Values.{symbols}
 use Rattle.lxt_format.specs.declared.Kind.the-variants.{Bits}
 use Rattle.lxt_written.specs.WrittenChanges.{codeOf, commandFor}
 use Rattle.lxt_written.specs.Writing.{isSymbol, valueAllowed}
-use Rattle.lxt_written.specs.CommandLaws.{code-small, command-one, command-0, command-1, command-2, command-bound}
-use Rattle.lxt_pack.specs.Symbols.{allBelow, sameAll, Lower, Higher, Coded}
+use Rattle.lxt_written.specs.CommandLaws.{code-small, command-one, command-0, command-1, command-2}
+use Rattle.lxt_pack.specs.Symbols.{allBelow, sameAll, Lower, Higher, Classed, Coded}
 
 -- ---- one byte
 
@@ -67,22 +67,24 @@ module _ (b : ℕ) where
 
   -- and with H U W L - below 9
   pub nine-is-one : (r : Bool) → r ≡ ltb (codeOf b) 4
-      → ((r || (eqb b 0x48 || eqb b 0x55)) || (eqb b 0x57 || (eqb b 0x4C || eqb b 0x2D))) ≡ ltb (codeOf b) 9
+      → ((r || (eqb b 0x48 || eqb b 0x4C)) || ((eqb b 0x55 || eqb b 0x57) || eqb b 0x2D)) ≡ ltb (codeOf b) 9
   unfolding any codeOf
   nine-is-one r e =
-      ap (λ q. (q || (eqb b 0x48 || eqb b 0x55)) || (eqb b 0x57 || (eqb b 0x4C || eqb b 0x2D))) (e ∙ sym (among b (take 4 symbols) (drop 4 symbols)))
+      ap (λ q. (q || (eqb b 0x48 || eqb b 0x4C)) || ((eqb b 0x55 || eqb b 0x57) || eqb b 0x2D)) (e ∙ sym (among b (take 4 symbols) (drop 4 symbols)))
       ∙ flat (eqb b 0x30) (eqb b 0x31) (eqb b 0x5A) (eqb b 0x58) (eqb b 0x48) (eqb b 0x55) (eqb b 0x57) (eqb b 0x4C) (eqb b 0x2D)
       ∙ among b symbols []
     where
       flat : (x y z v h u w l d : Bool)
-          → (((x || (y || (z || (v || false)))) || (h || u)) || (w || (l || d))) ≡ (x || (y || (z || (v || (h || (u || (w || (l || (d || false)))))))))
+          → (((x || (y || (z || (v || false)))) || (h || l)) || ((u || w) || d)) ≡ (x || (y || (z || (v || (h || (u || (w || (l || (d || false)))))))))
       flat true y z v h u w l d = refl
       flat false true z v h u w l d = refl
       flat false false true v h u w l d = refl
       flat false false false true h u w l d = refl
       flat false false false false true u w l d = refl
-      flat false false false false false true w l d = refl
-      flat false false false false false false true l d = refl
+      flat false false false false false true w true d = refl
+      flat false false false false false true w false d = refl
+      flat false false false false false false true true d = refl
+      flat false false false false false false true false d = refl
       flat false false false false false false false true d = refl
       flat false false false false false false false false true = refl
       flat false false false false false false false false false = refl
@@ -96,6 +98,28 @@ pub symbols-codes : (l : List ℕ) → all isSymbol l ≡ allBelow 9 l
 unfolding all allBelow
 symbols-codes [] = refl
 symbols-codes (x ∷ l) = rw (symbol-code x, symbols-codes l)
+
+-- a class is below 1 of 0 1 Z X, and below 2 of any symbol
+pub class-is : (b : ℕ) (four nine : Bool) (x y : ℕ) → four ≡ ltb (codeOf b) 4 → nine ≡ ltb (codeOf b) 9
+    → x ≡ (if not four then 1 else 0) → y ≡ (if not nine then 1 else 0) → Classed b (x + y)
+class-is b four nine x y ef en ex ey =
+    let code : ℕ = codeOf b in
+    elim (decLe 4 code) [
+      | no h ↦
+          let of-four = lt-ltb code 4 (omega arith) in
+          let of-nine = lt-ltb code 9 (omega arith) in
+          rw (ex, ey, ef, en, of-four, of-nine) (record { four = sym of-four; nine = sym of-nine })
+      | yes h ↦ elim (decLe 9 code) [
+        | no k ↦
+            let of-four = le-ltb code 4 h in
+            let of-nine = lt-ltb code 9 (omega arith) in
+            rw (ex, ey, ef, en, of-four, of-nine) (record { four = sym of-four; nine = sym of-nine })
+        | yes k ↦
+            let of-four = le-ltb code 4 h in
+            let of-nine = le-ltb code 9 k in
+            rw (ex, ey, ef, en, of-four, of-nine) (record { four = sym of-four; nine = sym of-nine })
+      ]
+    ]
 
 -- ---- what is seen, symbol by symbol
 
@@ -255,6 +279,56 @@ module _ (v : List ℕ) (start end : ℕ) (some : start < end) (inside : end ≤
             (test-turn (λ b. ltb (codeOf b) 2) v start end (ltb (codeOf low) 2 && ltb (codeOf high) 2) i (w .bits) inside less (ltb (codeOf symbol) 2) refl);
       }
 
+-- ---- what is seen, by the highest class
+
+-- the higher of two numbers is below a bound where both are
+higher-below : (k a b r : ℕ) → Higher a b r → ltb r k ≡ (ltb a k && ltb b k)
+higher-below zero a b r h = rw (le-ltb r 0 (omega arith), le-ltb a 0 (omega arith))
+higher-below (suc k) a b r h =
+    let left = h .left in
+    let right = h .right in
+    either-way (ltb r (suc k)) (ltb a (suc k) && ltb b (suc k))
+    (λ e.
+    let less = ltb-true r (suc k) e in
+    both-and (ltb a (suc k)) (ltb b (suc k)) (lt-ltb a (suc k) (omega arith)) (lt-ltb b (suc k) (omega arith)))
+    (λ e.
+    let q = and-both (ltb a (suc k)) (ltb b (suc k)) e in
+    let x = ltb-true a (suc k) (q .0) in
+    let y = ltb-true b (suc k) (q .1) in
+    let least = h .least k (omega arith) (omega arith) in
+    lt-ltb r (suc k) (omega arith))
+
+-- the highest class of the symbols from `start` up to i tells whether their codes are below 4, and 9
+pub record Classes (v : List ℕ) (start end class i : ℕ) : Type 0 where
+  pub four : Testing (λ b. ltb (codeOf b) 4) v start end (ltb class 1) i
+  pub nine : Testing (λ b. ltb (codeOf b) 9) v start end (ltb class 2) i
+
+module _ (v : List ℕ) (start end : ℕ) where
+  pub classes-begun : start ≤ end → Classes v start end 0 start
+  classes-begun h = record { four = test-begun (λ b. ltb (codeOf b) 4) v start end h; nine = test-begun (λ b. ltb (codeOf b) 9) v start end h }
+
+  class-turn : (k bound class i c class' : ℕ) → Testing (λ b. ltb (codeOf b) bound) v start end (ltb class k) i → end ≤ length v → i < end
+      → ltb c k ≡ ltb (codeOf (getD v i 0)) bound → Higher class c class' → Testing (λ b. ltb (codeOf b) bound) v start end (ltb class' k) (i + 1)
+  class-turn k bound class i c class' w inside less e h =
+      test-as (λ b. ltb (codeOf b) bound) v start end (ltb class k && ltb c k) (ltb class' k) (i + 1) (higher-below k class c class' h)
+      (test-turn (λ b. ltb (codeOf b) bound) v start end (ltb class k) i w inside less (ltb c k) e)
+
+  pub classes-turn : (class i c class' : ℕ) → Classes v start end class i → end ≤ length v → i < end → Classed (getD v i 0) c → Higher class c class'
+      → Classes v start end class' (i + 1)
+  classes-turn class i c class' w inside less is h =
+      record {
+        four = class-turn 1 4 class i c class' (w .four) inside less (is .four) h;
+        nine = class-turn 2 9 class i c class' (w .nine) inside less (is .nine) h;
+      }
+
+  pub classes-four : (class i : ℕ) → Classes v start end class i → end ≤ i → ltb class 1 ≡ allBelow 4 (slice start end v)
+  unfolding allBelow
+  classes-four class i w over = test-ended (λ b. ltb (codeOf b) 4) v start end (ltb class 1) i (w .four) over
+
+  pub classes-nine : (class i : ℕ) → Classes v start end class i → end ≤ i → ltb class 2 ≡ allBelow 9 (slice start end v)
+  unfolding allBelow
+  classes-nine class i w over = test-ended (λ b. ltb (codeOf b) 9) v start end (ltb class 2) i (w .nine) over
+
 -- ---- the first symbol of a part
 
 pub part-some : (v : List ℕ) (start end : ℕ) → start < end → end ≤ length v → 1 ≤ length (slice start end v)
@@ -313,19 +387,6 @@ below-more m n h [] e = refl
 below-more m n h (x ∷ l) e =
     let b = and-both (ltb (codeOf x) m) (all (λ b. ltb (codeOf b) m) l) e in
     both-and (ltb (codeOf x) n) (all (λ b. ltb (codeOf b) n) l) (let k = ltb-true (codeOf x) m (b .0) in lt-ltb (codeOf x) n (omega arith)) (below-more m n h l (b .1))
-
--- where all are the first, the first decides
-pub same-below : (m : ℕ) (first : ℕ) (value : List ℕ) → all (λ b. eqb b first) value ≡ true → ltb (codeOf first) m ≡ true → allBelow m value ≡ true
-unfolding allBelow all
-same-below m first [] e h = refl
-same-below m first (x ∷ l) e h =
-    let b = and-both (eqb x first) (all (λ b. eqb b first) l) e in
-    both-and (ltb (codeOf x) m) (all (λ b. ltb (codeOf b) m) l) (rw (eqb-true x first (b .0)) h) (same-below m first l (b .1) h)
-
-pub first-below : (m : ℕ) (value : List ℕ) → 1 ≤ length value → ltb (codeOf (getD value 0 0)) m ≡ false → allBelow m value ≡ false
-unfolding allBelow all
-first-below m [] n h = absurd (omega arith)
-first-below m (x ∷ l) n h = rw h
 
 -- of symbols
 module _ (value : List ℕ) (symbols-are : all isSymbol value ≡ true) where

@@ -1,15 +1,13 @@
 -- What the functions over a value's symbols answer and ask.
-use Prim.Native.Nat.{ℕ, zero, suc, _+_, _-_, _≤_, _<_, _^_}
+use Prim.Native.Nat.{ℕ, _+_, _-_, _≤_, _<_, _^_}
 use mathlib.Core.Path.{_≡_}
-use mathlib.Core.Bool.{Bool, true, false}
-use mathlib.Core.List.{List, [], _∷_}
+use mathlib.Core.Bool.{Bool}
+use mathlib.Core.List.{List}
 use lib.ListN.{length, getD}
 use lib.Dec.{ltb, eqb}
-use Rattle.lxt_format.specs.Basics.{if_then_else_, all}
+use Rattle.lxt_format.specs.Basics.{all}
 use Rattle.lxt_format.specs.Changes.{packedSize}
-use Rattle.lxt_format.specs.declared.Kind.the-variants.{Bits}
-use Rattle.lxt_written.specs.WrittenChanges.{codeOf, commandFor}
-use Rattle.lxt_written.specs.Writing.{isSymbol}
+use Rattle.lxt_written.specs.WrittenChanges.{codeOf}
 
 -- all codes are below a bound: 2 of 0 and 1, 4 of 0 1 Z X, 9 of all symbols
 unfoldable pub allBelow : ℕ → List ℕ → Bool
@@ -29,6 +27,11 @@ pub record Higher (a b r : ℕ) : Type 0 where
   pub left : a ≤ r
   pub right : b ≤ r
   pub least : (k : ℕ) → a ≤ k → b ≤ k → r ≤ k
+
+-- a number that tells 0 1 Z X, the other symbols and other bytes apart
+pub record Classed (symbol r : ℕ) : Type 0 where
+  pub four : ltb r 1 ≡ ltb (codeOf symbol) 4
+  pub nine : ltb r 2 ≡ ltb (codeOf symbol) 9
 
 -- the code of a symbol, where it is below a bound
 abbrev pub Coded : ℕ → ℕ → ℕ → Type 0

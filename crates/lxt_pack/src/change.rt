@@ -57,15 +57,8 @@ fn packed_size(b: usize, width: usize) -> usize
 // The answer where a value is not allowed; no value has so many bytes.
 pub const NONE: usize = 0x2_0000_0000;
 
-// The bytes of the data where all symbols are one: none.
-fn size_of_one(symbol: u8) -> usize
-    ensures { λ r. ⌜ (r ≡ (if ltb (codeOf symbol) 9 then 0 else notAllowed)) × (r ≤ notAllowed) ⌝ }
-{
-    if symbols::is_symbol(symbol) {
-        return 0;
-    }
-    NONE
-}
+// Of more symbols than these it is worth to see first whether all are 0 and 1.
+const MANY: usize = 64;
 
 // The bytes of the data of symbols, of which there are to be `width`.
 fn bits_size(width: u64, values: &[u8], start: usize, end: usize) -> usize
@@ -76,21 +69,18 @@ fn bits_size(width: u64, values: &[u8], start: usize, end: usize) -> usize
     if size as u64 != width {
         return NONE;
     }
-    let seen = symbols::look(values, start, end);
-    if seen.same {
-        return size_of_one(values[start]);
+    if MANY < size {
+        let seen = symbols::look(values, start, end);
+        if seen.bits {
+            return packed_size(one_if(!seen.same), size);
+        }
     }
-    if seen.bits {
-        return packed_size(1, size);
+    let seen = symbols::look_in_detail(values, start, end);
+    if !seen.nine {
+        return NONE;
     }
-    let further = symbols::look_further(values, start, end);
-    if further.four {
-        return packed_size(2, size);
-    }
-    if further.nine {
-        return packed_size(4, size);
-    }
-    NONE
+    let b = (1 + one_if(!seen.bits) + 2 * one_if(!seen.four)) * one_if(!seen.same);
+    packed_size(b, size)
 }
 
 // The bytes of the data of an integer: 32 symbols 0 or 1.

@@ -12,7 +12,7 @@ ghost use Rattle.lxt_format.specs.Changes.{packedSize};
 ghost use Rattle.lxt_format.specs.declared.Kind.the-variants.{Bits};
 ghost use Rattle.lxt_written.specs.WrittenChanges.{codeOf, commandFor, packedCodes, pack};
 ghost use Rattle.lxt_written.specs.Writing.{isSymbol};
-ghost use Rattle.lxt_pack.specs.Symbols.{allBelow, sameAll, Lower, Higher, Coded, Symbols, Whole, Size, Holding, Packing};
+ghost use Rattle.lxt_pack.specs.Symbols.{allBelow, sameAll, Lower, Higher, Classed, Coded, Symbols, Whole, Size, Holding, Packing};
 
 // ---- one symbol
 
@@ -32,8 +32,8 @@ fn is_one_of_four(symbol: u8) -> bool
 pub fn is_symbol(symbol: u8) -> bool
     ensures { λ r. ⌜ r ≡ ltb (codeOf symbol) 9 ⌝ }
 {
-    (is_one_of_four(symbol) | ((symbol == b'H') | (symbol == b'U')))
-        | ((symbol == b'W') | ((symbol == b'L') | (symbol == b'-')))
+    (is_one_of_four(symbol) | ((symbol == b'H') | (symbol == b'L')))
+        | (((symbol == b'U') | (symbol == b'W')) | (symbol == b'-'))
 }
 
 // The code of 0, 1, Z or X.
@@ -101,26 +101,46 @@ pub fn look(values: &[u8], start: usize, end: usize) -> Seen
     }
 }
 
-// All are 0, 1, Z or X; all are symbols.
-pub struct Further {
+// 0 of 0, 1, Z and X, 1 of the other symbols, 2 of a byte that is none.
+fn class_of(symbol: u8) -> u8
+    ensures { λ r. ⌜ Classed symbol r ⌝ }
+{
+    pick(!is_one_of_four(symbol), 1) + pick(!is_symbol(symbol), 1)
+}
+
+// All symbols are the first; all are 0 or 1; all are 0, 1, Z or X; all are symbols.
+pub struct Detail {
+    pub same: bool,
+    pub bits: bool,
     pub four: bool,
     pub nine: bool,
 }
 
-pub fn look_further(values: &[u8], start: usize, end: usize) -> Further
+// All at once, so that what follows needs no branch that depends on the symbols.
+pub fn look_in_detail(values: &[u8], start: usize, end: usize) -> Detail
     requires { ⌜ (start < end) × (end ≤ length (now values)) ⌝ }
+    ensures { λ r. ⌜ (r .same ≡ sameAll (slice start end (now (values .entry)))) × (r .bits ≡ allBelow 2 (slice start end (now (values .entry)))) ⌝ }
     ensures { λ r. ⌜ (r .four ≡ allBelow 4 (slice start end (now (values .entry)))) × (r .nine ≡ allBelow 9 (slice start end (now (values .entry)))) ⌝ }
 {
-    let mut four = true;
-    let mut nine = true;
+    let mut low = values[start];
+    let mut high = values[start];
+    let mut class: u8 = 0;
     let mut i = start;
     while i < end {
         let symbol = values[i];
-        four = four & is_one_of_four(symbol);
-        nine = nine & is_symbol(symbol);
+        low = lower(low, symbol);
+        high = higher(high, symbol);
+        class = higher(class, class_of(symbol));
         i += 1;
     }
-    Further { four, nine }
+    let same = low == high;
+    let bits = is_bit(low) & is_bit(high);
+    Detail {
+        same,
+        bits,
+        four: class < 1,
+        nine: class < 2,
+    }
 }
 
 fn all_of_four(values: &[u8], start: usize, end: usize) -> bool

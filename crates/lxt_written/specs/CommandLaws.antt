@@ -14,7 +14,6 @@ use native.Mathlib.Nat.{mul-suc}
 use borrow.Author.Tests.{eqb-true, ltb-true, lt-ltb, le-ltb, le-leb, eq-eqb, ne-eqb}
 use Rattle.lxt_format.specs.Basics.{range, all, any, select}
 use Rattle.lxt_format.specs.BasicsLaws.{on-test, and-both, both-and, or-either}
-use Rattle.lxt_format.specs.BytesLaws.{AreBytes}
 use Rattle.lxt_format.specs.Reals.{placeOf}
 use Rattle.lxt_format.specs.Changes.{commandAllowed, symbolSize, packedSize}
 use Rattle.lxt_format.specs.Values.{symbols, symbolOf}
@@ -445,13 +444,6 @@ codes-small b (suc k) codes h =
     let rest = codes-small b k (drop 1 codes) (λ i. rw (getD-drop 1 codes i 0) (h (1 + i))) in
     let e : b * suc k ≡ b + b * k = omega (arith, mul-suc b k) in
     rw (e, pow-add 2 b (b * k)) (digits-lt (h 0) rest)
-
--- the bytes of packed codes, where a byte holds 8 / b of them whole, as for b of 1, 2 and 4
-pack-bytes : (b n : ℕ) (codes : List ℕ) → b * (8 / b) ≡ 8 → ((i : ℕ) → getD codes i 0 < 2 ^ b) → AreBytes (pack b n codes)
-unfolding pack
-pack-bytes b zero codes w h i = omega arith
-pack-bytes b (suc n) codes w h zero = let l = codes-small b (8 / b) codes h in rw w at l
-pack-bytes b (suc n) codes w h (suc i) = pack-bytes b n (drop (8 / b) codes) w (λ j. rw (getD-drop (8 / b) codes j 0) (h (8 / b + j))) i
 
 -- the codes of symbols that a command holds, at every place
 pub codes-below : (m : ℕ) → 0 < m → (value : List ℕ) → all (λ x. ltb (codeOf x) m) value ≡ true → (i : ℕ) → getD (map codeOf value) i 0 < m

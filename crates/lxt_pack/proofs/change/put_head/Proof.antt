@@ -1,5 +1,4 @@
-use Prim.Native.Nat.{_+_}
-use lib.ListN.{length-set, set}
+use lib.ListN.{length-set}
 use mathlib.Core.Path.{refl}
 use native.Mathlib.Omega.{arith}
 use Rattle.lxt_pack.proofs.ChangeLaws.{head-put}

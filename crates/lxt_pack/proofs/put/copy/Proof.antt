@@ -1,6 +1,5 @@
 use borrow.Author.Needs.{needs}
 use Prim.Native.Nat.{_-_}
-use native.Mathlib.Omega.{arith}
 use Rattle.lxt_pack.proofs.PutLaws.{Copying, copy-begun, copy-turn, copy-ended}
 use Rattle.lxt_pack.proofs.put.copy.Statement.{statement}
 use Rattle.lxt_pack.proofs.put.copy.Tie as tie

@@ -1,4 +1,3 @@
-use native.Mathlib.Omega.{arith}
 use Rattle.lxt_pack.proofs.PackLaws.{code-sum}
 use borrow.Author.Needs.{needs}
 use Rattle.lxt_pack.proofs.symbols.code_of.Statement.{statement}
