@@ -1,14 +1,12 @@
 // One change: how many bytes it takes, and its bytes.
 ghost use mathlib.Core.Path.{_≡_};
 ghost use Prim.Native.Nat.{_+_, _*_, _-_, _≤_, _<_};
-ghost use lib.ListN.{length};
 ghost use lib.Seq.{slice};
-ghost use lib.Dec.{ltb};
 ghost use Rattle.lxt_format.specs.Basics.{if_then_else_};
 ghost use Rattle.lxt_format.specs.Buffers.{placed};
 ghost use Rattle.lxt_format.specs.Changes.{symbolSize, packedSize};
 ghost use Rattle.lxt_format.specs.declared.Kind.the-variants.{Bits, Integer, Real, Text};
-ghost use Rattle.lxt_written.specs.WrittenChanges.{codeOf, fewestBytes, packedSymbols};
+ghost use Rattle.lxt_written.specs.WrittenChanges.{fewestBytes, packedSymbols};
 ghost use Rattle.lxt_pack.specs.Change.{Part, WidthFor, notAllowed, sizeFor, Sizes, headOf, Scales, HeadAsked, Held, isReal, isText, Sound, Puts};
 use crate::parts;
 use crate::put;
