@@ -411,7 +411,13 @@ module _ (v : List ℕ) (start end b : ℕ) (out : List ℕ) (at : ℕ) (k : Pac
   pack-whole h =
       let g = k .holding in
       let u = w .upto in
-      record { size = g .size; upto = omega arith; within = omega (arith, g .within); codes = λ i l m. g .codes i (omega (arith, w .from)) (omega arith); known = λ i l m. g .known i (omega (arith, w .from)) (omega arith) }
+      record {
+        size = g .size;
+        upto = omega arith;
+        within = omega (arith, g .within);
+        codes = λ i l m. g .codes i (omega (arith, w .from)) (omega arith);
+        known = λ i l m. g .known i (omega (arith, w .from)) (omega arith);
+      }
 
   pack-rest : Holding v b p end
   pack-rest =

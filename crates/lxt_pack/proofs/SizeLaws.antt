@@ -33,14 +33,31 @@ pub few-sum : (delta a b c : ℕ) → a ≡ (if ltb 255 delta then 1 else 0) →
 unfolding fewestBytes
 few-sum delta a b c ea eb ec =
     elim (decLe delta 255) [
-      | yes h ↦ rw (ea, eb, ec, le-ltb 255 delta h, le-ltb 65535 delta (omega arith), le-ltb 16777215 delta (omega arith), lt-ltb delta 256 (omega arith)) (refl, omega arith, omega arith)
-      | no h ↦ elim (decLe delta 65535) [
-        | yes k ↦ rw (ea, eb, ec, lt-ltb 255 delta (omega arith), le-ltb 65535 delta k, le-ltb 16777215 delta (omega arith), le-ltb delta 256 (omega arith), lt-ltb delta 65536 (omega arith)) (refl, omega arith, omega arith)
-        | no k ↦ elim (decLe delta 16777215) [
-          | yes l ↦ rw (ea, eb, ec, lt-ltb 255 delta (omega arith), lt-ltb 65535 delta (omega arith), le-ltb 16777215 delta l, le-ltb delta 256 (omega arith), le-ltb delta 65536 (omega arith), lt-ltb delta 16777216 (omega arith)) (refl, omega arith, omega arith)
-          | no l ↦ rw (ea, eb, ec, lt-ltb 255 delta (omega arith), lt-ltb 65535 delta (omega arith), lt-ltb 16777215 delta (omega arith), le-ltb delta 256 (omega arith), le-ltb delta 65536 (omega arith), le-ltb delta 16777216 (omega arith)) (refl, omega arith, omega arith)
-        ]
-      ]
+      | yes h ↦
+          let x = le-ltb 255 delta h in
+          let y = le-ltb 65535 delta (omega arith) in
+          let z = le-ltb 16777215 delta (omega arith) in
+          rw (ea, eb, ec, x, y, z, lt-ltb delta 256 (omega arith)) (refl, omega arith, omega arith)
+      | no h ↦
+          let x = lt-ltb 255 delta (omega arith) in
+          let not-one = le-ltb delta 256 (omega arith) in
+          elim (decLe delta 65535) [
+            | yes k ↦
+                let y = le-ltb 65535 delta k in
+                let z = le-ltb 16777215 delta (omega arith) in
+                rw (ea, eb, ec, x, y, z, not-one, lt-ltb delta 65536 (omega arith)) (refl, omega arith, omega arith)
+            | no k ↦
+                let y = lt-ltb 65535 delta (omega arith) in
+                let not-two = le-ltb delta 65536 (omega arith) in
+                elim (decLe delta 16777215) [
+                  | yes l ↦
+                      let z = le-ltb 16777215 delta l in
+                      rw (ea, eb, ec, x, y, z, not-one, not-two, lt-ltb delta 16777216 (omega arith)) (refl, omega arith, omega arith)
+                  | no l ↦
+                      let z = lt-ltb 16777215 delta (omega arith) in
+                      rw (ea, eb, ec, x, y, z, not-one, not-two, le-ltb delta 16777216 (omega arith)) (refl, omega arith, omega arith)
+                ]
+          ]
     ]
 
 -- a delta that takes so many bytes is small
@@ -247,7 +264,9 @@ module _ (v : List ℕ) (start end : ℕ) (p : Part v start end) where
           bits-nine h = bits-given nine 2 (chosen-2 (slice start end v) nine mixed more h)
 
       -- by what is seen
-      bits-each : 1 ≤ width → packedSize (bitsEach (sameAll (slice start end v)) (allBelow 2 (slice start end v)) (allBelow 4 (slice start end v))) (end - start) ≡ sizeFor Bits width (slice start end v)
+      bits-each : 1 ≤ width
+          → packedSize (bitsEach (sameAll (slice start end v)) (allBelow 2 (slice start end v)) (allBelow 4 (slice start end v))) (end - start)
+          ≡ sizeFor Bits width (slice start end v)
       unfolding bitsEach
       bits-each n =
           let value : List ℕ = slice start end v in

@@ -15,28 +15,39 @@ is-real-requires : tie.Need-is-real-requires
 is-real-requires c κs = search needs
 
 put-real-requires : tie.Need-put-real-requires
-put-real-requires c κs = sound-of _ _ _ _ _ _ _ _ (real-is _ (sym (c .before .before .is-real .ensures) ∙ c .before .if1 .taken)) (c .before .before .before .before .before .pre)
+put-real-requires c κs =
+    let real = real-is _ (sym (c .before .before .is-real .ensures) ∙ c .before .if1 .taken) in
+    sound-of _ _ _ _ _ _ _ _ real (c .before .before .before .before .before .pre)
 
 same-length : tie.Need-same-length
 same-length c = search needs
 
 returns : tie.Need-returns
-returns c = puts-of _ _ _ _ _ _ _ _ (real-is _ (sym (c .before .before .before .before .before .is-real .ensures) ∙ c .before .before .before .before .if1 .taken)) (c .before .before .put-real .ensures)
+returns c =
+    let real = real-is _ (sym (c .before .before .before .before .before .is-real .ensures) ∙ c .before .before .before .before .if1 .taken) in
+    puts-of _ _ _ _ _ _ _ _ real (c .before .before .put-real .ensures)
 
 is-text-requires : tie.Need-is-text-requires
 is-text-requires c κs = search needs
 
 put-text-requires : tie.Need-put-text-requires
-put-text-requires c κs = sound-of _ _ _ _ _ _ _ _ (text-is _ (sym (c .before .before .is-text .ensures) ∙ c .before .if2 .taken)) (c .before .before .before .before .before .before .before .pre)
+put-text-requires c κs =
+    let text = text-is _ (sym (c .before .before .is-text .ensures) ∙ c .before .if2 .taken) in
+    sound-of _ _ _ _ _ _ _ _ text (c .before .before .before .before .before .before .before .pre)
 
 same-length-2 : tie.Need-same-length-2
 same-length-2 c = search needs
 
 returns-2 : tie.Need-returns-2
-returns-2 c = puts-of _ _ _ _ _ _ _ _ (text-is _ (sym (c .before .before .before .before .before .is-text .ensures) ∙ c .before .before .before .before .if2 .taken)) (c .before .before .put-text .ensures)
+returns-2 c =
+    let text = text-is _ (sym (c .before .before .before .before .before .is-text .ensures) ∙ c .before .before .before .before .if2 .taken) in
+    puts-of _ _ _ _ _ _ _ _ text (c .before .before .put-text .ensures)
 
 put-bits-requires : tie.Need-put-bits-requires
-put-bits-requires c κs = by-kind-sound _ _ _ _ _ _ _ (sym (c .before .before .before .before .is-real .ensures) ∙ c .before .before .before .if1 .left) (sym (c .before .before .is-text .ensures) ∙ c .before .if2 .left) (c .before .before .before .before .before .before .before .pre)
+put-bits-requires c κs =
+    let no-real = sym (c .before .before .before .before .is-real .ensures) ∙ c .before .before .before .if1 .left in
+    let no-text = sym (c .before .before .is-text .ensures) ∙ c .before .if2 .left in
+    by-kind-sound _ _ _ _ _ _ _ no-real no-text (c .before .before .before .before .before .before .before .pre)
 
 same-length-3 : tie.Need-same-length-3
 same-length-3 c = search needs

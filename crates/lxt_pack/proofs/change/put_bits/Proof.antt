@@ -18,7 +18,9 @@ put-head-requires c κs =
 put-symbols-requires : tie.Need-put-symbols-requires
 put-symbols-requires c κs =
     let start = c .before .before .before .before .before .before .before .before in
-    bits-held _ _ _ _ _ _ (start .pre) _ _ _ (c .before .before .before .before .before .command-of-symbols .ensures) (c .before .before .before .put-head .ensures .1) (c .before .before .before .put-head .ensures .0)
+    let command = c .before .before .before .before .before .command-of-symbols .ensures in
+    let head = c .before .before .before .put-head .ensures in
+    bits-held _ _ _ _ _ _ (start .pre) _ _ _ command (head .1) (head .0)
 
 same-length : tie.Need-same-length
 same-length c = search needs
@@ -26,7 +28,10 @@ same-length c = search needs
 returns : tie.Need-returns
 returns c =
     let start = c .before .before .before .before .before .before .before .before .before .before .before in
-    bits-put _ _ _ _ _ _ (start .pre) _ _ _ _ _ (c .before .before .before .before .before .before .before .before .command-of-symbols .ensures) (c .before .before .before .before .before .before .put-head .ensures .0) (c .before .before .before .before .before .before .put-head .ensures .1) (c .before .before .put-symbols .ensures .0) (c .before .before .put-symbols .ensures .1)
+    let command = c .before .before .before .before .before .before .before .before .command-of-symbols .ensures in
+    let head = c .before .before .before .before .before .before .put-head .ensures in
+    let packed = c .before .before .put-symbols .ensures in
+    bits-put _ _ _ _ _ _ (start .pre) _ _ _ _ _ command (head .0) (head .1) (packed .0) (packed .1)
 
 pub put-bits-spec : {M : Type 1} → statement M
 put-bits-spec =

@@ -107,7 +107,9 @@ returns : tie.Need-returns
 returns c =
     let start = c .before .before .before .before .before .before .before in
     let k = c .before .before .before .before .before .delta-size .ensures .0 in
-    (head-put (start .args .out .now) (start .args .at) _ _ _ _ _ _ _ _ (start .pre) k (c .before .before .before .before .scale-of .ensures) refl refl (c .before .chosen .ensures) (c .chosen2 .ensures), omega (arith, k))
+    let scale = c .before .before .before .before .scale-of .ensures in
+    let put = head-put (start .args .out .now) (start .args .at) _ _ _ _ _ _ _ _ (start .pre) k scale refl refl (c .before .chosen .ensures) (c .chosen2 .ensures) in
+    (put, omega (arith, k))
 
 pub put-head-spec : {M : Type 1} → statement M
 put-head-spec =

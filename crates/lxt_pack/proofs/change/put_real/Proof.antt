@@ -32,7 +32,8 @@ same-length c = search needs
 returns : tie.Need-returns
 returns c =
     let start = c .before .before .before .before .before .before .before .before .before .before in
-    real-put _ _ _ _ _ _ (start .pre) _ _ _ _ (c .before .before .before .before .before .before .put-head .ensures .0) (c .before .before .before .before .before .before .put-head .ensures .1) (c .before .before .copy .ensures) refl
+    let head = c .before .before .before .before .before .before .put-head .ensures in
+    real-put _ _ _ _ _ _ (start .pre) _ _ _ _ (head .0) (head .1) (c .before .before .copy .ensures) refl
 
 pub put-real-spec : {M : Type 1} → statement M
 put-real-spec =

@@ -40,7 +40,8 @@ returns-2 c =
     let start = c .before .before .before .before .before .before .before .before .before in
     let a = start .args in
     let b = c .before .before .before .before .before .before .symbol-size .ensures .0 in
-    (symbols-put (a .values .now) (a .start) _ _ (a .out .now) _ (a .at) _ (start .pre .within) b (c .before .before .before .pack .ensures), omega (arith, packed-by _ _ _ _ b (c .packed-size .ensures .0)))
+    let packed = symbols-put (a .values .now) (a .start) _ _ (a .out .now) _ (a .at) _ (start .pre .within) b (c .before .before .before .pack .ensures) in
+    (packed, omega (arith, packed-by _ _ _ _ b (c .packed-size .ensures .0)))
 
 pub put-symbols-spec : {M : Type 1} → statement M
 put-symbols-spec =

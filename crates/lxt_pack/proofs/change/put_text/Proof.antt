@@ -50,7 +50,9 @@ same-length c = search needs
 returns : tie.Need-returns
 returns c =
     let start = c .before .before .before .before .before .before .before .before .before .before .before .before .before .before in
-    text-put _ _ _ _ _ _ (start .pre) _ _ _ _ _ (c .before .before .before .before .before .before .before .before .before .before .put-head .ensures .0) (c .before .before .before .before .before .before .before .before .before .before .put-head .ensures .1) (c .before .before .before .before .before .before .copy .ensures) (c .before .before .one .ensures) refl
+    let head = c .before .before .before .before .before .before .before .before .before .before .put-head .ensures in
+    let text = c .before .before .before .before .before .before .copy .ensures in
+    text-put _ _ _ _ _ _ (start .pre) _ _ _ _ _ (head .0) (head .1) text (c .before .before .one .ensures) refl
 
 pub put-text-spec : {M : Type 1} → statement M
 put-text-spec =

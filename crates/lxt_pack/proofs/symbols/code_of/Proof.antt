@@ -54,7 +54,14 @@ add-result-3 c = search needs
 returns : tie.Need-returns
 returns c =
     let start = c .before .before .before .before .before .before .before .before in
-    code-sum (start .args .symbol) (start .fits .symbol .fits) _ _ _ _ _ _ _ _ (c .before .before .before .before .before .before .before .pick .ensures .0) (c .before .before .before .before .before .before .pick2 .ensures .0) (c .before .before .before .before .before .pick3 .ensures .0) (c .before .before .before .before .pick4 .ensures .0) (c .before .before .before .pick5 .ensures .0) (c .before .before .pick6 .ensures .0) (c .before .pick7 .ensures .0) (c .pick8 .ensures .0)
+    let of-1 = c .before .before .before .before .before .before .before .pick .ensures .0 in
+    let of-z = c .before .before .before .before .before .before .pick2 .ensures .0 in
+    let of-x = c .before .before .before .before .before .pick3 .ensures .0 in
+    let of-h = c .before .before .before .before .pick4 .ensures .0 in
+    let of-u = c .before .before .before .pick5 .ensures .0 in
+    let of-w = c .before .before .pick6 .ensures .0 in
+    let of-l = c .before .pick7 .ensures .0 in
+    code-sum (start .args .symbol) (start .fits .symbol .fits) _ _ _ _ _ _ _ _ of-1 of-z of-x of-h of-u of-w of-l (c .pick8 .ensures .0)
 
 pub code-of-spec : {M : Type 1} → statement M
 code-of-spec =

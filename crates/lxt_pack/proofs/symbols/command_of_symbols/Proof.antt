@@ -25,7 +25,10 @@ returns : tie.Need-returns
 returns c =
     let start = c .before .before .before .before .before in
     let seen = c .before .before .before .look .ensures in
-    same-is _ (start .pre .2) (sym (seen .0) ∙ c .before .before .if1 .taken) (part-some _ _ _ (start .pre .0) (start .pre .1)) _ _ (first-of _ _ _ (start .pre .0) (start .pre .1)) (c .code-of .ensures .0)
+    let some = part-some _ _ _ (start .pre .0) (start .pre .1) in
+    let first = first-of _ _ _ (start .pre .0) (start .pre .1) in
+    let same = sym (seen .0) ∙ c .before .before .if1 .taken in
+    same-is _ (start .pre .2) same some _ _ first (c .code-of .ensures .0)
 
 returns-2 : tie.Need-returns-2
 returns-2 c =
@@ -40,13 +43,17 @@ returns-3 : tie.Need-returns-3
 returns-3 c =
     let start = c .before .before .before .before .before .before in
     let seen = c .before .before .before .before .look .ensures in
-    four-are _ (start .pre .2) (sym (seen .0) ∙ c .before .before .before .if1 .left) (sym (seen .1) ∙ c .before .before .if2 .left) (sym (c .before .all-of-four .ensures) ∙ c .if3 .taken)
+    let mixed = sym (seen .0) ∙ c .before .before .before .if1 .left in
+    let more = sym (seen .1) ∙ c .before .before .if2 .left in
+    four-are _ (start .pre .2) mixed more (sym (c .before .all-of-four .ensures) ∙ c .if3 .taken)
 
 returns-4 : tie.Need-returns-4
 returns-4 c =
     let start = c .before .before .before .before .before .before in
     let seen = c .before .before .before .before .look .ensures in
-    nine-are _ (start .pre .2) (sym (seen .0) ∙ c .before .before .before .if1 .left) (sym (seen .1) ∙ c .before .before .if2 .left) (sym (c .before .all-of-four .ensures) ∙ c .if3 .left)
+    let mixed = sym (seen .0) ∙ c .before .before .before .if1 .left in
+    let more = sym (seen .1) ∙ c .before .before .if2 .left in
+    nine-are _ (start .pre .2) mixed more (sym (c .before .all-of-four .ensures) ∙ c .if3 .left)
 
 pub command-of-symbols-spec : {M : Type 1} → statement M
 command-of-symbols-spec =

@@ -9,7 +9,7 @@ use Rattle.lxt_pack.proofs.symbols.nibble.Reads as nibble-reads
 nibble-requires : tie.Need-nibble-requires
 nibble-requires c κs =
     let start = c .before in
-    eight-first (start .args .values .now) (start .args .at) (λ i. c .shared-slice-known .given i .fits) (start .pre)
+    eight-first _ _ (λ i. c .shared-slice-known .given i .fits) (start .pre)
 
 mul-result : tie.Need-mul-result
 mul-result c = search needs
@@ -20,7 +20,7 @@ add-nibble c = search needs
 nibble-requires-2 : tie.Need-nibble-requires-2
 nibble-requires-2 c κs =
     let start = c .before .before in
-    eight-second (start .args .values .now) (start .args .at) (λ i. c .before .shared-slice-known .given i .fits) (start .pre)
+    eight-second _ _ (λ i. c .before .shared-slice-known .given i .fits) (start .pre)
 
 add-result : tie.Need-add-result
 add-result c = search needs
@@ -28,7 +28,7 @@ add-result c = search needs
 returns : tie.Need-returns
 returns c =
     let start = c .before .before .before in
-    eight-is (start .args .values .now) (start .args .at) (λ i. c .before .before .shared-slice-known .given i .fits) (start .pre) _ _ (c .before .nibble .ensures .0) (c .nibble2 .ensures .0)
+    eight-is _ _ (λ i. c .before .before .shared-slice-known .given i .fits) (start .pre) _ _ (c .before .nibble .ensures .0) (c .nibble2 .ensures .0)
 
 pub eight-spec : {M : Type 1} → statement M
 eight-spec =

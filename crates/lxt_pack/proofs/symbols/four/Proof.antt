@@ -60,7 +60,11 @@ add-result c = search needs
 returns : tie.Need-returns
 returns c =
     let start = c .before .before .before .before .before .before .before .before .before in
-    four-is (start .args .values .now) (start .args .at) (λ i. c .before .before .before .before .before .before .before .before .shared-slice-known .given i .fits) (start .pre) _ _ _ _ (c .before .before .before .before .before .before .code-of-four .ensures .0) (c .before .before .before .before .code-of-four2 .ensures .0) (c .before .before .code-of-four3 .ensures .0) (c .code-of-four4 .ensures .0)
+    let bytes = c .before .before .before .before .before .before .before .before .shared-slice-known .given in
+    let first = c .before .before .before .before .before .before .code-of-four .ensures .0 in
+    let second = c .before .before .before .before .code-of-four2 .ensures .0 in
+    let third = c .before .before .code-of-four3 .ensures .0 in
+    four-is _ _ (λ i. bytes i .fits) (start .pre) _ _ _ _ first second third (c .code-of-four4 .ensures .0)
 
 pub four-spec : {M : Type 1} → statement M
 four-spec =

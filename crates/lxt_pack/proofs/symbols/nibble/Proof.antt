@@ -65,30 +65,32 @@ add-low-3 c =
 add-bits : tie.Need-add-bits
 add-bits c =
     let start = c .before .before .before .before in
-    omega (arith, c .shared-slice-known4 .given (start .args .at), c .shared-slice-known4 .given (start .args .at + 1), c .shared-slice-known4 .given (start .args .at + 2), c .shared-slice-known4 .given (start .args .at + 3))
+    let at = start .args .at in
+    let bytes = c .shared-slice-known4 .given in
+    omega (arith, bytes at, bytes (at + 1), bytes (at + 2), bytes (at + 3))
 
 sub-bits : tie.Need-sub-bits
 sub-bits c =
     let start = c .before .before .before .before in
     let bytes = c .shared-slice-known4 .given in
-    let d = digits-are (start .args .values .now) (start .args .at) (λ i. bytes i .fits) (start .pre) in
-    let s = digits-small (start .args .values .now) (start .args .at) (λ i. bytes i .fits) (start .pre) in
+    let d = digits-are _ _ (λ i. bytes i .fits) (start .pre) in
+    let s = digits-small _ _ (λ i. bytes i .fits) (start .pre) in
     omega (arith, d .0, d .1, d .2, d .3, s .0, s .1, s .2, s .3)
 
 cast-result : tie.Need-cast-result
 cast-result c =
     let start = c .before .before .before .before in
     let bytes = c .shared-slice-known4 .given in
-    let d = digits-are (start .args .values .now) (start .args .at) (λ i. bytes i .fits) (start .pre) in
-    let s = digits-small (start .args .values .now) (start .args .at) (λ i. bytes i .fits) (start .pre) in
+    let d = digits-are _ _ (λ i. bytes i .fits) (start .pre) in
+    let s = digits-small _ _ (λ i. bytes i .fits) (start .pre) in
     omega (arith, d .0, d .1, d .2, d .3, s .0, s .1, s .2, s .3)
 
 mul-result : tie.Need-mul-result
 mul-result c =
     let start = c .before .before .before .before in
     let bytes = c .shared-slice-known4 .given in
-    let d = digits-are (start .args .values .now) (start .args .at) (λ i. bytes i .fits) (start .pre) in
-    let s = digits-small (start .args .values .now) (start .args .at) (λ i. bytes i .fits) (start .pre) in
+    let d = digits-are _ _ (λ i. bytes i .fits) (start .pre) in
+    let s = digits-small _ _ (λ i. bytes i .fits) (start .pre) in
     omega (arith, d .0, d .1, d .2, d .3, s .0, s .1, s .2, s .3)
 
 cast-result-2 : tie.Need-cast-result-2
@@ -97,7 +99,7 @@ cast-result-2 c = search needs
 returns : tie.Need-returns
 returns c =
     let start = c .before .before .before .before in
-    nibble-is (start .args .values .now) (start .args .at) (λ i. c .shared-slice-known4 .given i .fits) (start .pre) _ refl
+    nibble-is _ _ (λ i. c .shared-slice-known4 .given i .fits) (start .pre) _ refl
 
 pub nibble-spec : {M : Type 1} → statement M
 nibble-spec =

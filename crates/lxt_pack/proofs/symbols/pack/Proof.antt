@@ -19,7 +19,8 @@ same-length c = search needs
 returns : tie.Need-returns
 returns c =
     let start = c .before .before .before .before .before .before .before in
-    packed-of (start .args .values .now) (start .args .start) (start .args .end) (start .args .b) 1 (start .args .out .now) (start .args .at) _ (c .before .before .before .before .if1 .taken) (c .before .before .pack-bits .ensures)
+    let a = start .args in
+    packed-of (a .values .now) (a .start) (a .end) (a .b) 1 (a .out .now) (a .at) _ (c .before .before .before .before .if1 .taken) (c .before .before .pack-bits .ensures)
 
 pack-pairs-requires : tie.Need-pack-pairs-requires
 pack-pairs-requires c κs =
@@ -32,12 +33,14 @@ same-length-2 c = search needs
 returns-2 : tie.Need-returns-2
 returns-2 c =
     let start = c .before .before .before .before .before .before .before .before in
-    packed-of (start .args .values .now) (start .args .start) (start .args .end) (start .args .b) 2 (start .args .out .now) (start .args .at) _ (c .before .before .before .before .if2 .taken) (c .before .before .pack-pairs .ensures)
+    let a = start .args in
+    packed-of (a .values .now) (a .start) (a .end) (a .b) 2 (a .out .now) (a .at) _ (c .before .before .before .before .if2 .taken) (c .before .before .pack-pairs .ensures)
 
 pack-codes-requires : tie.Need-pack-codes-requires
 pack-codes-requires c κs =
     let start = c .before .before .before .before .before in
-    packing-of _ _ _ _ 4 _ _ (size-two-bits _ (start .pre .holding .size) (c .before .before .if1 .left) (c .before .if2 .left)) (start .pre)
+    let four = size-two-bits _ (start .pre .holding .size) (c .before .before .if1 .left) (c .before .if2 .left) in
+    packing-of _ _ _ _ 4 _ _ four (start .pre)
 
 same-length-3 : tie.Need-same-length-3
 same-length-3 c = search needs
@@ -45,7 +48,9 @@ same-length-3 c = search needs
 returns-3 : tie.Need-returns-3
 returns-3 c =
     let start = c .before .before .before .before .before .before .before .before in
-    packed-of (start .args .values .now) (start .args .start) (start .args .end) (start .args .b) 4 (start .args .out .now) (start .args .at) _ (size-two-bits _ (start .pre .holding .size) (c .before .before .before .before .before .if1 .left) (c .before .before .before .before .if2 .left)) (c .before .before .pack-codes .ensures)
+    let four = size-two-bits _ (start .pre .holding .size) (c .before .before .before .before .before .if1 .left) (c .before .before .before .before .if2 .left) in
+    let a = start .args in
+    packed-of (a .values .now) (a .start) (a .end) (a .b) 4 (a .out .now) (a .at) _ four (c .before .before .pack-codes .ensures)
 
 pub pack-spec : {M : Type 1} → statement M
 pack-spec =

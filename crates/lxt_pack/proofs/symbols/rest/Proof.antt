@@ -35,7 +35,10 @@ cast-sum : tie.Need-cast-sum Inv-loop μ-loop
 cast-sum c = search needs
 
 add-sum : tie.Need-add-sum Inv-loop μ-loop
-add-sum c = omega (arith, small-product _ _ (sum-small _ _ _ _ _ _ (c .before .before .loop .inv) (c .before .before .before .before .before .pre)) (c .before .before .before .base-of .ensures .1), c .digit .ok)
+add-sum c =
+    let start = c .before .before .before .before .before in
+    let small = sum-small _ _ _ _ _ _ (c .before .before .loop .inv) (start .pre) in
+    omega (arith, small-product _ _ small (c .before .before .before .base-of .ensures .1), c .digit .ok)
 
 add-k : tie.Need-add-k Inv-loop μ-loop
 add-k c = omega (arith, places-some _ (c .before .before .before .before .before .pre .size) .2, c .before .loop-test .taken)
@@ -44,7 +47,10 @@ loop-less : tie.Need-loop-less Inv-loop μ-loop
 loop-less c = search needs
 
 loop-again : tie.Need-loop-again Inv-loop μ-loop
-loop-again c = sum-turn _ _ _ _ _ _ (c .before .before .loop .inv) (c .before .before .before .before .before .pre .within) (c .before .loop-test .taken) _ _ (c .before .before .before .base-of .ensures .0) (c .digit .ensures)
+loop-again c =
+    let start = c .before .before .before .before .before in
+    let base = c .before .before .before .base-of .ensures .0 in
+    sum-turn _ _ _ _ _ _ (c .before .before .loop .inv) (start .pre .within) (c .before .loop-test .taken) _ _ base (c .digit .ensures)
 
 cast-result : tie.Need-cast-result Inv-loop μ-loop
 cast-result c = omega (arith, sum-small _ _ _ _ _ _ (c .before .loop .inv) (c .before .before .before .before .pre))

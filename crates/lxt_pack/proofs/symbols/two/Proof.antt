@@ -30,7 +30,8 @@ add-result c = search needs
 returns : tie.Need-returns
 returns c =
     let start = c .before .before .before .before .before in
-    two-is (start .args .values .now) (start .args .at) (λ i. c .before .before .before .before .shared-slice-known .given i .fits) (start .pre) _ _ (c .before .before .code-of .ensures .0) (c .code-of2 .ensures .0)
+    let bytes = c .before .before .before .before .shared-slice-known .given in
+    two-is _ _ (λ i. bytes i .fits) (start .pre) _ _ (c .before .before .code-of .ensures .0) (c .code-of2 .ensures .0)
 
 pub two-spec : {M : Type 1} → statement M
 two-spec =

@@ -100,7 +100,11 @@ size-of-requires c κs =
     (record { upto = omega arith; within = inside .if2 .left; size = omega arith }, width-known _ _ _ (c .before .kind-of .ensures) (c .width-of .ensures) (start .pre .0 _ (known .if1 .left)))
 
 returns-3 : tie.Need-returns-3
-returns-3 c = row-sized _ _ _ _ _ (c .before .before .before .before .before .before .if1 .left) (c .before .before .before .before .before .if2 .left) _ _ _ _ (c .before .before .kind-of .ensures) (c .before .width-of .ensures) refl (c .size-of .ensures .0) (c .size-of .ensures .1)
+returns-3 c =
+    let known = c .before .before .before .before .before .before .if1 .left in
+    let inside = c .before .before .before .before .before .if2 .left in
+    let size = c .size-of .ensures in
+    row-sized _ _ _ _ _ known inside _ _ _ _ (c .before .before .kind-of .ensures) (c .before .width-of .ensures) refl (size .0) (size .1)
 
 pub row-size-spec : {M : Type 1} → statement M
 row-size-spec =
