@@ -123,8 +123,8 @@ fn counts_are_as_meant() {
         for words in &made.made {
             met.meet(format!("made: {words}"), true);
         }
-        let most =
-            made.draft.value(0x13) == 4 && made.draft.end() - made.draft.body_length(0x13) < 24;
+        let beside = made.draft.end().checked_sub(made.draft.body_length(0x13));
+        let most = made.draft.value(0x13) == 4 && beside.is_some_and(|bytes| bytes < 24);
         met.meet("13 over nearly all", most);
         met.meet("several windows", made.draft.end() > 2 * WINDOW);
         met.meet("64-bit times", made.draft.times_tag() == LONG_TIMES);
