@@ -230,7 +230,7 @@ fn any_range(random: &mut Random, wide: bool) -> (i32, i32) {
     let width = match random.below(8) {
         0 if wide => random.pick(&[4_095, 4_096]),
         0..=2 => 1,
-        3..=6 => random.pick(&[2, 3, 4, 5, 7, 8, 9, 15, 16, 17, 31, 32, 33]),
+        3..=6 => random.pick(&[2, 3, 4, 5, 7, 8, 9, 15, 16, 17, 31, 32, 33, 63, 64, 65]),
         _ => random.within_signed(1, 70) as i32,
     };
     let low = match random.below(6) {

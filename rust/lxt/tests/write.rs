@@ -152,6 +152,49 @@ fn nonsense_is_answered_alike() {
     assert!(written > 50 && refused > 2_000, "{written} {refused}");
 }
 
+/// The command of symbols of which all are `one` but for one `other`, or 24 where that is no symbol.
+fn command_of(one: u8, other: u8) -> Result<u8, u8> {
+    let code = |symbol| b"01ZXHUWL-".iter().position(|it| *it == symbol);
+    let (one, other) = (code(one).ok_or(24)?, code(other).ok_or(24)?);
+    Ok(match one.max(other) {
+        _ if one == other => 3 + one as u8,
+        0..=1 => 0,
+        2..=3 => 1,
+        _ => 2,
+    })
+}
+
+/// A symbol, another byte, and the first, a middle or the last place.
+fn choices(width: usize) -> impl Iterator<Item = (u8, u8, usize)> {
+    let pairs = b"01ZH"
+        .iter()
+        .flat_map(|one| b"01ZXHUWL-\0/2Yz\xFF".map(|other| (*one, other)));
+    pairs.flat_map(move |(one, other)| [0, width / 2, width - 1].map(|place| (one, other, place)))
+}
+
+#[test]
+fn one_symbol_at_any_place_decides_the_command() {
+    for width in [1, 2, 7, 8, 9, 15, 16, 17, 33, 63, 64, 65, 129, 4_096] {
+        let mut input = Input::new();
+        input.facility(b"bus", BITS, width as i32 - 1, 0);
+        for (one, other, place) in choices(width) {
+            let mut value = vec![one; width];
+            value[place] = other;
+            let all_are = if width == 1 { other } else { one };
+            let what = format!("{width} times {one:#x}, {other:#x} at {place}");
+            input.changes.clear();
+            input.change(0, 7, &value);
+            let file = written(&input, 10_000);
+            let command = file.as_ref().map(|file| file[4] & 15).map_err(|it| *it);
+            assert_eq!(command, command_of(all_are, other), "{what}");
+            assert!(file == independent_file(&input), "{what}");
+            if let Ok(file) = file {
+                read_back(&input, &file, &what);
+            }
+        }
+    }
+}
+
 /// Inputs of different kinds that are then filled up to the greatest length.
 fn large_inputs() -> Vec<(&'static str, Input)> {
     let mut texts = Input::new();
