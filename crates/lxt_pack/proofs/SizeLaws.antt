@@ -6,7 +6,7 @@ use mathlib.Core.Path.{_≡_, refl, sym, ap, _∙_}
 use mathlib.Core.Bool.{Bool, true, false, not, _||_}
 use mathlib.Core.List.{List, [], _∷_}
 use lib.ListN.{length, getD, length-append}
-use lib.Seq.{slice, length-slice}
+use lib.Seq.{slice, slice-cons, slice-empty, length-slice}
 use lib.Dec.{ltb, eqb}
 use native.Mathlib.Decide.{decLe}
 use borrow.Author.Tests.{lt-ltb, le-ltb, eq-eqb, ne-eqb}
@@ -214,6 +214,12 @@ size-refused : (kind : Kind) (width : ℕ) (value : List ℕ) → valueAllowed k
 unfolding sizeFor
 size-refused kind width value e = rw e
 
+-- a part of one byte
+single : (v : List ℕ) (start end : ℕ) → end ≤ length v → end - start ≡ 1 → slice start end v ≡ getD v start 0 ∷ []
+single v start end inside one =
+    let last : end ≡ suc start = omega arith in
+    slice-cons start end v 0 (omega arith) inside ∙ ap (λ l. getD v start 0 ∷ l) (rw last (slice-empty (suc start) v))
+
 module _ (v : List ℕ) (start end : ℕ) (p : Part v start end) where
   part-long : length (slice start end v) ≡ end - start
   part-long = length-slice start end v (p .within)
@@ -276,6 +282,22 @@ module _ (v : List ℕ) (start end : ℕ) (p : Part v start end) where
           on-test (allBelow 2 value)
           (λ t. rw (s, t) (bits-two s t))
           (λ t. on-test (allBelow 4 value) (λ f. rw (s, t, f) (bits-four s t f)) (λ f. rw (s, t, f) (bits-nine s t f))))
+
+    -- one symbol
+    pub bits-one : end - start ≡ 1 → (r : ℕ) → r ≡ (if ltb (codeOf (getD v start 0)) 9 then 0 else notAllowed) → r ≡ sizeFor Bits width (slice start end v)
+    unfolding sameAll allBelow all packedSize
+    bits-one one r er =
+        let first : ℕ = getD v start 0 in
+        let is : slice start end v ≡ first ∷ [] = single v start end (p .within) one in
+        on-test (ltb (codeOf first) 9)
+        (λ y.
+        let nine : allBelow 9 (slice start end v) ≡ true = rw (is, y) in
+        let same : sameAll (slice start end v) ≡ true = rw (is, eq-eqb first first refl) in
+        let none : 0 ≡ (0 * (end - start) + 7) / 8 = omega arith in
+        er ∙ rw y (none ∙ bits-same nine same (omega arith)))
+        (λ y.
+        let no-symbol : allBelow 9 (slice start end v) ≡ false = rw (is, y) in
+        er ∙ rw y (bits-none no-symbol))
 
     -- bits, of which it is seen whether all are one
     pub bits-of-two : 1 ≤ width → (same bits : Bool) → same ≡ sameAll (slice start end v) → bits ≡ allBelow 2 (slice start end v) → bits ≡ true

@@ -2,11 +2,12 @@
 ghost use mathlib.Core.Path.{_≡_};
 ghost use Prim.Native.Nat.{_+_, _*_, _-_, _≤_, _<_};
 ghost use lib.Seq.{slice};
+ghost use lib.Dec.{ltb};
 ghost use Rattle.lxt_format.specs.Basics.{if_then_else_};
 ghost use Rattle.lxt_format.specs.Buffers.{placed};
 ghost use Rattle.lxt_format.specs.Changes.{symbolSize, packedSize};
 ghost use Rattle.lxt_format.specs.declared.Kind.the-variants.{Bits, Integer, Real, Text};
-ghost use Rattle.lxt_written.specs.WrittenChanges.{fewestBytes, packedSymbols};
+ghost use Rattle.lxt_written.specs.WrittenChanges.{codeOf, fewestBytes, packedSymbols};
 ghost use Rattle.lxt_pack.specs.Change.{Part, WidthFor, notAllowed, sizeFor, Sizes, headOf, Scales, HeadAsked, Held, isReal, isText, Sound, Puts};
 use crate::parts;
 use crate::put;
@@ -55,7 +56,17 @@ fn packed_size(b: usize, width: usize) -> usize
 // The answer where a value is not allowed; no value has so many bytes.
 pub const NONE: usize = 0x2_0000_0000;
 
-// Of more symbols than these it is worth to see first whether all are 0 and 1.
+// The bytes of the data of one symbol: none.
+fn size_of_one(symbol: u8) -> usize
+    ensures { λ r. ⌜ (r ≡ (if ltb (codeOf symbol) 9 then 0 else notAllowed)) × (r ≤ notAllowed) ⌝ }
+{
+    if symbols::is_symbol(symbol) {
+        return 0;
+    }
+    NONE
+}
+
+// Past so many symbols it pays to look first whether all are 0 and 1.
 const MANY: usize = 64;
 
 // The bytes of the data of symbols, of which there are to be `width`.
@@ -66,6 +77,9 @@ fn bits_size(width: u64, values: &[u8], start: usize, end: usize) -> usize
     let size = end - start;
     if size as u64 != width {
         return NONE;
+    }
+    if size == 1 {
+        return size_of_one(values[start]);
     }
     if MANY < size {
         let seen = symbols::look(values, start, end);
