@@ -14,6 +14,7 @@ use Rattle.lxt_format.specs.Basics.{if_then_else_, all}
 use Rattle.lxt_format.specs.BasicsLaws.{and-both, both-and}
 use Rattle.lxt_format.specs.Buffers.{placed, length-placed, placed-none, placed-more}
 use Rattle.lxt_format.specs.Changes.{symbolSize, packedSize}
+use Rattle.lxt_format.specs.Reals.{isReal}
 use Rattle.lxt_format.specs.declared.Kind.{Kind}
 use Rattle.lxt_format.specs.declared.Kind.the-variants.{Bits, Integer, Real, Text}
 use Rattle.lxt_written.specs.Stands.{length-bigEndian}
@@ -21,7 +22,7 @@ use Rattle.lxt_written.specs.WrittenChanges.{bigEndian, codeOf, commandFor, pac
 use Rattle.lxt_written.specs.Writing.{isSymbol, isBit, valueAllowed}
 use Rattle.lxt_written.specs.CommandLaws.{code-small, length-change, length-packed, value-symbols, value-length, command-bound, command-holds, held-codes}
 use Rattle.lxt_pack.specs.Symbols.{Size, Packing}
-use Rattle.lxt_pack.specs.Change.{headOf, Scales, HeadAsked, Held, isReal, isText, Sound, Puts}
+use Rattle.lxt_pack.specs.Change.{headOf, Scales, HeadAsked, Held, isText, Sound, Puts}
 use Rattle.lxt_pack.proofs.PutLaws.{stored-two, stored-three, stored-four}
 use Rattle.lxt_pack.proofs.SizeLaws.{one-small, two-small, bits-symbols, integer-command}
 

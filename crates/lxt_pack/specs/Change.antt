@@ -62,12 +62,6 @@ pub record Held (values : List ℕ) (start end command : ℕ) (out : List ℕ) (
   pub holds : canHold Bits (slice start end values) command ≡ true
   pub room : at + packedSize (symbolSize command) (end - start) ≤ length out
 
-unfoldable pub isReal : Kind → Bool
-isReal Bits = false
-isReal Integer = false
-isReal Real = true
-isReal Text = false
-
 unfoldable pub isText : Kind → Bool
 isText Bits = false
 isText Integer = false

@@ -1,4 +1,4 @@
-use Rattle.lxt_pack.specs.Change.{isReal}
+use Rattle.lxt_format.specs.Reals.{isReal}
 use borrow.Author.Needs.{needs}
 use Rattle.lxt_pack.proofs.change.is_real.Statement.{statement}
 use Rattle.lxt_pack.proofs.change.is_real.Tie as tie
