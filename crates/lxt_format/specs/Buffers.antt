@@ -68,6 +68,14 @@ placed-byte b at t x k ek h =
     ∙ ap (λ l. take at b ++ l) (sym (append-snoc t x (drop (suc k) b)))
     ∙ ap (λ n. take at b ++ ((t ++ (x ∷ [])) ++ drop n b)) sum
 
+-- a byte stored at a place
+pub stored-one : (b : List ℕ) (at x : ℕ) → at < length b → set b at x ≡ placed b at (x ∷ [])
+stored-one b at x h = ap (λ q. set q at x) (sym (placed-none b at)) ∙ placed-byte b at [] x at (omega arith) h
+
+-- a byte, and then more behind it
+pub placed-next : (b : List ℕ) (at x : ℕ) (t : List ℕ) → at < length b → placed (set b at x) (at + 1) t ≡ placed b at (x ∷ t)
+placed-next b at x t h = rw (stored-one b at x h) (placed-more b at (x ∷ []) t (omega arith))
+
 -- text put before a byte that is stored already
 pub placed-before : (b : List ℕ) (at : ℕ) (t : List ℕ) (x k : ℕ) → k ≡ at + length t → k < length b → placed (set b k x) at t ≡ placed b at (t ++ (x ∷ []))
 placed-before b at t x k ek h =

@@ -1,6 +1,6 @@
 use Rattle.lxt_format.specs.Basics.{if_then_else_}
 -- Numbers in a file. A file is a list of bytes; past its end a byte counts as 0, so that every definition is total.
-use Prim.Native.Nat.{ℕ, zero, suc, _+_, _*_, _-_, _^_}
+use Prim.Native.Nat.{ℕ, zero, suc, _+_, _*_, _-_, _/_, _%_, _^_}
 use mathlib.Core.List.{List, [], _∷_}
 use lib.ListN.{getD}
 use lib.IntN.{ℤ, pos, negsuc}
@@ -24,6 +24,11 @@ u32At s o = numberAt 4 s o
 unfoldable pub numbersAt : ℕ → ℕ → List ℕ → ℕ → List ℕ
 numbersAt k zero s o = []
 numbersAt k (suc n) s o = numberAt k s o ∷ numbersAt k n s (o + k)
+
+-- k bytes of a number, the lowest first, as of reals
+unfoldable pub littleEndian : ℕ → ℕ → List ℕ
+littleEndian zero x = []
+littleEndian (suc k) x = x % 256 ∷ littleEndian k (x / 256)
 
 -- a number of 8, 32 or 64 bits read as signed: in its upper half it stands for itself less 2 ^ bits
 unfoldable pub signed : ℕ → ℕ → ℤ

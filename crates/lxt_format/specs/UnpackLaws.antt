@@ -11,6 +11,18 @@ use native.Mathlib.Nat.{div-eq-of-lt, mod-eq-of-lt, add-div-left, add-mod-left, 
 use Rattle.lxt_format.specs.Basics.{joined}
 use Rattle.lxt_format.specs.Changes.{digits, unpack}
 
+-- the sizes of a code in bits: 1, 2 and 4
+pub data Size : ℕ → Type 0 where
+  one : Size 1
+  two : Size 2
+  four : Size 4
+
+-- what is not 1 and not 2 is 4
+pub size-else : (b : ℕ) → Size b → (b ≡ 1 → ⊥) → (b ≡ 2 → ⊥) → b ≡ 4
+size-else b Size.one n m = absurd (n refl)
+size-else b Size.two n m = absurd (m refl)
+size-else b Size.four n m = refl
+
 pub length-digits : (b k x : ℕ) → length (digits b k x) ≡ k
 unfolding digits
 length-digits b zero x = refl

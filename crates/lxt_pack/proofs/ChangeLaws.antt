@@ -21,7 +21,8 @@ use Rattle.lxt_written.specs.Stands.{length-bigEndian}
 use Rattle.lxt_written.specs.WrittenChanges.{bigEndian, codeOf, commandFor, pack, packedSymbols, dataFor, fewestBytes, changeBytes}
 use Rattle.lxt_written.specs.Writing.{isSymbol, isBit, valueAllowed}
 use Rattle.lxt_written.specs.CommandLaws.{code-small, length-change, length-packed, value-symbols, value-length, command-bound, command-holds, held-codes}
-use Rattle.lxt_pack.specs.Symbols.{Size, Packing}
+use Rattle.lxt_format.specs.UnpackLaws.{Size}
+use Rattle.lxt_pack.specs.Symbols.{Packing}
 use Rattle.lxt_pack.specs.Change.{headOf, Scales, HeadAsked, Held, isText, Sound, Puts}
 use Rattle.lxt_pack.proofs.PutLaws.{stored-two, stored-three, stored-four}
 use Rattle.lxt_pack.proofs.SizeLaws.{one-small, two-small, bits-symbols, integer-command}

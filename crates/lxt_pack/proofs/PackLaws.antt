@@ -10,8 +10,7 @@ use lib.ListN.{length, getD, set, take, drop, length-set, length-take, drop-of-l
 use lib.Pow.{pow-pos, pow-add}
 use native.Mathlib.Decide.{decLe}
 use lib.Seq.{slice, slice-cons, slice-empty, drop-drop}
-use Rattle.lxt_format.specs.Buffers.{placed, placed-none}
-use Rattle.lxt_pack.proofs.PutLaws.{stored-one, placed-next}
+use Rattle.lxt_format.specs.Buffers.{placed, placed-none, stored-one, placed-next}
 use lib.Dec.{leb, ltb, eqb, lit<, lit≤}
 use borrow.Author.Tests.{eqb-true, leb-true, ltb-true}
 use Rattle.lxt_format.specs.Basics.{if_then_else_, range, all}
@@ -20,7 +19,8 @@ use Rattle.lxt_format.specs.Reals.{placeOf}
 use Rattle.lxt_format.specs.Changes.{packedSize}
 use Rattle.lxt_written.specs.WrittenChanges.{codeOf, packedCodes, pack}
 use Rattle.lxt_written.specs.CommandLaws.{codes-small}
-use Rattle.lxt_pack.specs.Symbols.{Coded, Symbols, Whole, Size, Holding, Packing}
+use Rattle.lxt_format.specs.UnpackLaws.{Size}
+use Rattle.lxt_pack.specs.Symbols.{Coded, Symbols, Whole, Holding, Packing}
 
 -- ---- codes, by all bytes
 
@@ -231,12 +231,6 @@ module _ (v : List ℕ) (at : ℕ) (bytes : Bytes v) where
       rw (two-long v at (w .within), ← ka, ← kb) (omega arith)
 
 -- ---- the three sizes
-
--- what is put into a byte of b bits a code
-pub size-two-bits : (b : ℕ) → Size b → (b ≡ 1 → ⊥) → (b ≡ 2 → ⊥) → b ≡ 4
-size-two-bits b Size.one n m = absurd (n refl)
-size-two-bits b Size.two n m = absurd (m refl)
-size-two-bits b Size.four n m = refl
 
 -- the symbols of a byte
 whole-of : (v : List ℕ) (b at : ℕ) → Holding v b at (at + 8 / b) → Whole v b (8 / b) at

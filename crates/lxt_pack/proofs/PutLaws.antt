@@ -6,15 +6,12 @@ use mathlib.Core.Path.{_≡_, refl, sym, ap, _∙_}
 use mathlib.Core.List.{List, [], _∷_, _++_}
 use lib.ListN.{length, getD, set, drop, length-append, length-set}
 use lib.Seq.{slice, slice-cons, slice-empty, drop-cons, drop-length}
-use Rattle.lxt_format.specs.Buffers.{placed, length-placed, placed-none, placed-more, placed-byte}
+use Rattle.lxt_format.specs.Buffers.{placed, length-placed, placed-none, placed-more, placed-byte, stored-one, placed-next}
 use Rattle.lxt_format.specs.Basics.{joined}
 use Rattle.lxt_written.specs.WrittenChanges.{bigEndian}
 use Rattle.lxt_written.specs.TableSizes.{length-rows}
 
 -- ---- bytes stored one by one
-
-pub stored-one : (b : List ℕ) (at x : ℕ) → at < length b → set b at x ≡ placed b at (x ∷ [])
-stored-one b at x h = ap (λ q. set q at x) (sym (placed-none b at)) ∙ placed-byte b at [] x at (omega arith) h
 
 pub stored-two : (b : List ℕ) (at x y : ℕ) → at + 2 ≤ length b → set (set b at x) (at + 1) y ≡ placed b at (x ∷ y ∷ [])
 stored-two b at x y h = rw (stored-one b at x (omega arith)) (placed-byte b at (x ∷ []) y (at + 1) (omega arith) (omega arith))
@@ -25,10 +22,6 @@ stored-three b at x y z h = rw (stored-two b at x y (omega arith)) (placed-byte 
 pub stored-four : (b : List ℕ) (at x y z w : ℕ) → at + 4 ≤ length b
     → set (set (set (set b at x) (at + 1) y) (at + 2) z) (at + 3) w ≡ placed b at (x ∷ y ∷ z ∷ w ∷ [])
 stored-four b at x y z w h = rw (stored-three b at x y z (omega arith)) (placed-byte b at (x ∷ y ∷ z ∷ []) w (at + 3) (omega arith) (omega arith))
-
--- a byte, and then more behind it
-pub placed-next : (b : List ℕ) (at x : ℕ) (t : List ℕ) → at < length b → placed (set b at x) (at + 1) t ≡ placed b at (x ∷ t)
-placed-next b at x t h = rw (stored-one b at x h) (placed-more b at (x ∷ []) t (omega arith))
 
 -- ---- big-endian numbers
 

@@ -7,6 +7,7 @@ use lib.ListN.{length, getD}
 use lib.Dec.{ltb, eqb}
 use Rattle.lxt_format.specs.Basics.{all}
 use Rattle.lxt_format.specs.Changes.{packedSize}
+use Rattle.lxt_format.specs.UnpackLaws.{Size}
 use Rattle.lxt_written.specs.WrittenChanges.{codeOf}
 
 -- all codes are below a bound: 2 of 0 and 1, 4 of 0 1 Z X, 9 of all symbols
@@ -46,12 +47,6 @@ pub record Whole (values : List ℕ) (b p at : ℕ) : Type 0 where
   pub within : at + p ≤ length values
   pub codes : (i : ℕ) → i < p → codeOf (getD values (at + i) 0) < 2 ^ b
   pub known : (i : ℕ) → i < p → codeOf (getD values (at + i) 0) < 9
-
--- the sizes of a code in bits: 1, 2 and 4
-pub data Size : ℕ → Type 0 where
-  one : Size 1
-  two : Size 2
-  four : Size 4
 
 -- symbols from `start` up to `end` whose codes have b bits
 pub record Holding (values : List ℕ) (b start end : ℕ) : Type 0 where

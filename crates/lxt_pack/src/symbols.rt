@@ -9,10 +9,11 @@ ghost use lib.Dec.{ltb};
 ghost use Rattle.lxt_format.specs.Basics.{if_then_else_, all};
 ghost use Rattle.lxt_format.specs.Buffers.{placed};
 ghost use Rattle.lxt_format.specs.Changes.{packedSize};
+ghost use Rattle.lxt_format.specs.UnpackLaws.{Size};
 ghost use Rattle.lxt_format.specs.declared.Kind.the-variants.{Bits};
 ghost use Rattle.lxt_written.specs.WrittenChanges.{codeOf, commandFor, packedCodes, pack};
 ghost use Rattle.lxt_written.specs.Writing.{isSymbol};
-ghost use Rattle.lxt_pack.specs.Symbols.{allBelow, sameAll, Lower, Higher, Classed, Coded, Symbols, Whole, Size, Holding, Packing};
+ghost use Rattle.lxt_pack.specs.Symbols.{allBelow, sameAll, Lower, Higher, Classed, Coded, Symbols, Whole, Holding, Packing};
 
 // ---- one symbol
 

@@ -5,10 +5,9 @@ use mathlib.Core.List.{List, [], _∷_}
 use lib.ListN.{length, getD}
 use native.Mathlib.Omega.{arith}
 use Rattle.lxt_format.specs.Basics.{range}
-use Rattle.lxt_format.specs.Bytes.{byteAt}
+use Rattle.lxt_format.specs.Bytes.{byteAt, littleEndian}
 use Rattle.lxt_format.specs.BytesLaws.{AreBytes}
 use Rattle.lxt_format.specs.Reals.{byteOrder, bitsInOrder, realBits}
-use Rattle.lxt_written.specs.RoundTrip.{littleEndian}
 use Rattle.lxt_written.specs.Stands.{Stands}
 use Rattle.lxt_round_trip.specs.Steps.{lowestFirst}
 

@@ -1,7 +1,7 @@
 -- A law for each way out of the functions on aliases.
 use Prim.Native.Nat.{ℕ, suc, _+_, _-_, _≤_, _<_}
 use mathlib.Core.Path.{_≡_, refl, sym, _∙_}
-use mathlib.Core.Bool.{Bool, true, false, false≢true}
+use mathlib.Core.Bool.{Bool, true, false, not, false≢true}
 use mathlib.Core.List.{List}
 use lib.Dec.{ltb, leb}
 use lib.ListN.{length, getD, set, replicate, length-set, length-replicate, getD-replicate}
@@ -9,13 +9,13 @@ use lib.Seq.{getD-set-same, getD-set-other}
 use native.Mathlib.Omega.{arith}
 use native.Mathlib.Decide.{ℕ-discrete, decLe}
 use native.Mathlib.Numerals.{add-one}
-use borrow.Author.Tests.{lt-ltb, le-ltb, le-leb, lt-leb}
+use borrow.Author.Tests.{lt-ltb, le-ltb, le-leb, lt-leb, not-true}
 use Rattle.lxt_format.specs.Limits.{mostFacilities}
 use Rattle.lxt_format.specs.Basics.{if_then_else_, range, all}
-use Rattle.lxt_format.specs.BasicsLaws.{on-test, all-turn, all-stop, all-end}
+use Rattle.lxt_format.specs.BasicsLaws.{on-test, all-range, range-all, all-turn, all-stop, all-end}
 use Rattle.lxt_format.specs.Sections.{facilityCount}
 use Rattle.lxt_format.specs.Geometry.{rowsOf, isAlias, rootWithin, rootOf, aliasesAllowed}
-use Rattle.lxt_format.specs.GeometryLaws.{root-outside, root-here, root-next}
+use Rattle.lxt_format.specs.GeometryLaws.{root-outside, root-here, root-next, root-self}
 use Rattle.lxt_tables.specs.Stage.{Geometry}
 use Rattle.lxt_tables.specs.Asked.{Roots, Stores, Resolved}
 use Rattle.lxt_tables.proofs.WayLaws.{passing, passing-same, root-of-alias}
@@ -191,11 +191,44 @@ module _ (s : List ℕ) (g n : ℕ) (p : Geometry s g n) where
             answer = rw add-one (sym (all-turn has-root f n h (lt-ltb (rootOf s f) (facilityCount s) (rw (← er, ← p .count) l))) ∙ w .answer);
           }
 
+-- ---- no facility is an alias
+
+module _ (s : List ℕ) where
+  abbrev pub own : ℕ → Bool
+  own f = not (isAlias s f)
+
+  module _ (n : ℕ) where
+    pub none-begun : all own (range 0 (n - 0)) ≡ all own (range 0 n)
+    none-begun = let e : n - 0 ≡ n = omega arith in rw e
+
+    module _ (f : ℕ) (inv : all own (range f (n - f)) ≡ all own (range 0 n)) where
+      pub none-end : n ≤ f → true ≡ all own (range 0 n)
+      none-end h = sym (all-end own f n h) ∙ inv
+
+      module _ (h : f < n) (b : Bool) (eb : b ≡ isAlias s f) where
+        pub none-stop : b ≡ true → false ≡ all own (range 0 n)
+        none-stop z = sym (all-stop own f n h (rw (← eb, z))) ∙ inv
+
+        pub none-turn : b ≡ false → all own (range (f + 1) (n - (f + 1))) ≡ all own (range 0 n)
+        none-turn z = rw add-one (sym (all-turn own f n h (rw (← eb, z))) ∙ inv)
+
+  -- then each is its own root
+  pub own-roots : (g n : ℕ) → Geometry s g n → (b : Bool) → b ≡ all own (range 0 n) → b ≡ true → true ≡ aliasesAllowed s
+  unfolding aliasesAllowed
+  own-roots g n p b eb z =
+      let n′ : ℕ = facilityCount s in
+      let every : all own (range 0 n′) ≡ true = rw (← p .count) (sym eb ∙ z) in
+      sym (range-all (λ f. ltb (rootOf s f) n′) 0 n′
+        (λ f _ h.
+          let inside : f < n′ = omega arith in
+          let none : isAlias s f ≡ false = not-true (isAlias s f) (all-range own 0 n′ every f (omega arith) h) in
+          lt-ltb (rootOf s f) n′ (rw (root-self s f inside none) inside)))
+
 -- a table in which no root is known
-pub none-known : (s : List ℕ) (n : ℕ) → n ≤ mostFacilities → Roots s n 0 (replicate 4096 4096)
+pub none-known : (s : List ℕ) (n : ℕ) → n ≤ mostFacilities → Roots s n 0 (replicate 4096 0xFFFF_FFFF)
 none-known s n h =
     record {
-      room = rw (length-replicate {A = ℕ} 4096 4096) h;
-      right = λ g l k. absurd (omega (arith, getD-replicate {A = ℕ} 4096 g 4096 0 (omega arith)));
+      room = rw (length-replicate {A = ℕ} 4096 0xFFFF_FFFF) h;
+      right = λ g l k. absurd (omega (arith, getD-replicate {A = ℕ} 4096 g 0xFFFF_FFFF 0 (omega arith)));
       first = λ g l. absurd (omega arith);
     }

@@ -1,7 +1,8 @@
 // Aliases and roots: refusal 12.
 ghost use mathlib.Core.Path.{_≡_};
 ghost use Prim.Native.Nat.{_+_, _≤_, _<_};
-ghost use Rattle.lxt_format.specs.Basics.{if_then_else_};
+ghost use mathlib.Core.Bool.{not};
+ghost use Rattle.lxt_format.specs.Basics.{if_then_else_, range, all};
 ghost use Rattle.lxt_format.specs.Limits.{mostFacilities};
 ghost use Rattle.lxt_format.specs.Geometry.{rowsOf, isAlias, rootOf, aliasesAllowed};
 ghost use Rattle.lxt_tables.specs.Stage.{Geometry};
@@ -11,10 +12,10 @@ use crate::geometry::rows;
 use lxt_format::Summary;
 
 // A table of roots has an entry for each facility of any file. An entry that is no facility's number
-// says that the root is not known yet.
+// says that the root is not known yet; the bytes of this one are equal, so that a table is filled with bytes.
 pub const ROOM: usize = Summary::MOST_FACILITIES as usize;
 
-pub const UNKNOWN: u32 = Summary::MOST_FACILITIES;
+pub const UNKNOWN: u32 = 0xFFFF_FFFF;
 
 // The root of facility `f`, or `n` where it has none. A way of more than `n` facilities meets one
 // twice and never ends.
@@ -102,11 +103,29 @@ pub fn put_roots(file: &[u8], geometry: usize, n: u32, roots: &mut [u32]) -> boo
     true
 }
 
-// Refusal 12: every facility has a root.
+// Whether no facility is an alias.
+fn none_is_alias(file: &[u8], geometry: usize, n: u32) -> bool
+    requires { ⌜ Geometry (now file) geometry n ⌝ }
+    ensures { λ r. ⌜ r ≡ all (λ f. not (isAlias (now (file .entry)) f)) (range 0 n) ⌝ }
+{
+    let mut f = 0;
+    while f < n {
+        if is_alias(file, geometry, n, f) {
+            return false;
+        }
+        f += 1;
+    }
+    true
+}
+
+// Refusal 12: every facility has a root. Where there is no alias, no table is made.
 pub fn aliases_allowed(file: &[u8], geometry: usize, n: u32) -> bool
     requires { ⌜ Geometry (now file) geometry n × (n ≤ mostFacilities) ⌝ }
     ensures { λ r. ⌜ r ≡ aliasesAllowed (now (file .entry)) ⌝ }
 {
+    if none_is_alias(file, geometry, n) {
+        return true;
+    }
     let mut roots = [UNKNOWN; ROOM];
     put_roots(file, geometry, n, &mut roots)
 }

@@ -1,6 +1,9 @@
 pub mod SoundSymbols
 pub mod SoundChains
 pub mod SymbolLaws
+pub mod ByteLaws
+pub mod StepLaws
+pub mod WriteLaws
 pub mod RealLaws
 pub mod TimeLaws
 pub mod CopyLaws

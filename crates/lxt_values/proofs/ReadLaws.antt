@@ -2,7 +2,7 @@
 use Prim.Native.Nat.{ℕ, _+_, _≤_, _<_}
 use mathlib.Core.Path.{_≡_, _∙_}
 use mathlib.Core.Bool.{true}
-use mathlib.Core.List.{List, [], _++_}
+use mathlib.Core.List.{List, _++_}
 use lib.ListN.{length, drop, length-replicate}
 use lib.Seq.{slice}
 use lib.Ieee.{Float}
@@ -23,7 +23,8 @@ use Rattle.lxt_format.specs.declared.Kind.{Kind}
 use Rattle.lxt_format.specs.declared.Kind.the-variants.{Bits, Integer, Real, Text}
 use Rattle.lxt_changes.specs.Faults.{symbolic}
 use Rattle.lxt_values.specs.Symbols.{Drawn}
-use Rattle.lxt_values.proofs.SymbolLaws.{Sizes, by-1, by-2, by-4, symbols-length}
+use Rattle.lxt_format.specs.UnpackLaws.{Size}
+use Rattle.lxt_values.proofs.SymbolLaws.{symbols-length}
 use Rattle.lxt_values.proofs.SoundSymbols.{sound-drawn}
 use Rattle.lxt_values.specs.Reals.{Places}
 use Rattle.lxt_values.specs.Times as Ti
@@ -37,20 +38,20 @@ unfolding symbolsAt symbolSize
 symbols-long s width o d =
     let c : ℕ = commandOf s o in
     elim (ℕ-discrete c 0) [
-      | yes e ↦ packed-long 1 8 by-1 (simp (eq-eqb c 0 e)) (lit< tt)
+      | yes e ↦ packed-long 1 Size.one (simp (eq-eqb c 0 e)) (lit< tt)
       | no n ↦ elim (ℕ-discrete c 1) [
-        | yes e ↦ packed-long 2 4 by-2 (simp (ne-eqb c 0 n, eq-eqb c 1 e)) (lit< tt)
+        | yes e ↦ packed-long 2 Size.two (simp (ne-eqb c 0 n, eq-eqb c 1 e)) (lit< tt)
         | no m ↦ elim (ℕ-discrete c 2) [
-          | yes e ↦ packed-long 4 2 by-4 (simp (ne-eqb c 0 n, ne-eqb c 1 m, eq-eqb c 2 e)) (lit< tt)
+          | yes e ↦ packed-long 4 Size.four (simp (ne-eqb c 0 n, ne-eqb c 1 m, eq-eqb c 2 e)) (lit< tt)
           | no k ↦ none-long (simp (ne-eqb c 0 n, ne-eqb c 1 m, ne-eqb c 2 k))
         ]
       ]
     ]
   where
-    packed-long : (b p : ℕ) → Sizes b p → symbolSize (commandOf s o) ≡ b → 0 < b → length (symbolsAt s width o) ≡ width
-    packed-long b p z e l =
+    packed-long : (b : ℕ) → Size b → symbolSize (commandOf s o) ≡ b → 0 < b → length (symbolsAt s width o) ≡ width
+    packed-long b z e l =
         let n : symbolSize (commandOf s o) ≡ 0 → ⊥ = omega arith in
-        simp (ne-eqb _ 0 n) (rw e (symbols-length b p z s width (dataAt s o) (record { inside = rw (← e) (d .inside); codes = rw (← e) (d .codes) })))
+        simp (ne-eqb _ 0 n) (rw e (symbols-length s b width (dataAt s o) (record { size = z; inside = rw (← e) (d .inside) })))
 
     none-long : symbolSize (commandOf s o) ≡ 0 → length (symbolsAt s width o) ≡ width
     none-long e = simp (eq-eqb _ 0 e) (length-replicate width _)

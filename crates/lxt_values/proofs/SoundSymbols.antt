@@ -8,7 +8,7 @@ use lib.Dec.{eqb}
 use native.Mathlib.Omega.{arith}
 use borrow.Author.Tests.{leb-true, eqb-true}
 use Rattle.lxt_format.specs.BasicsLaws.{or-either}
-use Rattle.lxt_format.specs.Changes.{signal, commandAllowed, dataSize, dataAllowed, changeEnd}
+use Rattle.lxt_format.specs.Changes.{signal, commandAllowed, dataSize, changeEnd}
 use Rattle.lxt_format.specs.ChangesLaws.{Sound}
 use Rattle.lxt_format.specs.declared.Kind.{Kind}
 use Rattle.lxt_format.specs.declared.Kind.the-variants.{Bits, Integer, Real, Text}
@@ -24,14 +24,14 @@ integer-command c h =
 
 -- a sound change whose kind has symbols
 pub sound-drawn : (s : List ℕ) (C T : ℕ) (kind : Kind) (width o : ℕ) → symbolic kind ≡ true → T ≤ length s → Sound s (signal C T kind width) o → Drawn s width o
-unfolding symbolic changeEnd dataSize dataAllowed commandAllowed
+unfolding symbolic changeEnd dataSize commandAllowed
 sound-drawn s C T Bits width o k t d =
     let a = d .before in
     let e = d .ends in
-    record { starts = omega arith; inside = omega arith; command = leb-true _ _ (d .command); codes = d .data′ }
+    record { starts = omega arith; inside = omega arith; command = leb-true _ _ (d .command) }
 sound-drawn s C T Integer width o k t d =
     let a = d .before in
     let e = d .ends in
-    record { starts = omega arith; inside = omega arith; command = integer-command _ (d .command); codes = d .data′ }
+    record { starts = omega arith; inside = omega arith; command = integer-command _ (d .command) }
 sound-drawn s C T Real width o k t d = absurd (false≢true k)
 sound-drawn s C T Text width o k t d = absurd (false≢true k)

@@ -1,3 +1,5 @@
+pub mod Steps
+pub mod StepExamples
 pub mod Symbols
 pub mod Reals
 pub mod Times

@@ -136,7 +136,7 @@ module _ (s : List ℕ) (t : Tables) (asked os₀ : List ℕ) (w : Starting s t 
   pub asked-geometry : Geometry s (t .geometry) (t .facilities)
   asked-geometry = start-known s t (w .tables) (w .accepted) .geometry-at
 
-  pub asked-none-known : Roots s (t .facilities) 0 (replicate 4096 4096)
+  pub asked-none-known : Roots s (t .facilities) 0 (replicate 4096 0xFFFF_FFFF)
   asked-none-known = none-known s (t .facilities) (start-known s t (w .tables) (w .accepted) .few)
 
   -- a file that is accepted has a root for each facility

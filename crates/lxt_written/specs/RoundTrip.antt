@@ -1,13 +1,14 @@
 -- Paper 02, Ask 5: "What it writes is accepted and read back as the same facilities (msb, lsb as written), initial symbol, timescale and changes."
 -- The claim is `RoundTrip`; its proof is `round-trip` (lxt_round_trip/proofs/RoundTripped).
-use Prim.Native.Nat.{ℕ, zero, suc, _+_, _/_, _%_, _<_}
+use Prim.Native.Nat.{ℕ, _+_, _<_}
 use mathlib.Core.Path.{_≡_}
 use mathlib.Core.Bool.{true}
-use mathlib.Core.List.{List, [], _∷_, map, reverse}
+use mathlib.Core.List.{List, [], map, reverse}
 use lib.ListN.{getD}
 use lib.Seq.{slice}
 use lib.IntN.{ℤ, pos}
 use Rattle.lxt_format.specs.Basics.{range}
+use Rattle.lxt_format.specs.Bytes.{littleEndian}
 use Rattle.lxt_format.specs.BytesLaws.{AreBytes}
 use Rattle.lxt_format.specs.Sections.{facilityCount, timescaleOf, initialOf}
 use Rattle.lxt_format.specs.Names.{nameOf}
@@ -41,11 +42,6 @@ pub record Seen : Type 0 where
   pub facility : ℕ
   pub time : ℤ
   pub value : List ℕ
-
--- k bytes of a number, the lowest first
-unfoldable pub littleEndian : ℕ → ℕ → List ℕ
-littleEndian zero x = []
-littleEndian (suc k) x = x % 256 ∷ littleEndian k (x / 256)
 
 -- a value that was read, as values are given to the writer: symbols, the bytes of a real's bits, the bytes of a text's part of the file
 abbrev pub valueSeen : List ℕ → Content → List ℕ

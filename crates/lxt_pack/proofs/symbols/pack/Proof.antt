@@ -1,4 +1,5 @@
-use Rattle.lxt_pack.proofs.PackLaws.{packing-of, packed-of, size-two-bits}
+use Rattle.lxt_pack.proofs.PackLaws.{packing-of, packed-of}
+use Rattle.lxt_format.specs.UnpackLaws.{size-else}
 use borrow.Author.Needs.{needs}
 use Rattle.lxt_pack.proofs.symbols.pack.Statement.{statement}
 use Rattle.lxt_pack.proofs.symbols.pack.Tie as tie
@@ -39,7 +40,7 @@ returns-2 c =
 pack-codes-requires : tie.Need-pack-codes-requires
 pack-codes-requires c κs =
     let start = c .before .before .before .before .before in
-    let four = size-two-bits _ (start .pre .holding .size) (c .before .before .if1 .left) (c .before .if2 .left) in
+    let four = size-else _ (start .pre .holding .size) (c .before .before .if1 .left) (c .before .if2 .left) in
     packing-of _ _ _ _ 4 _ _ four (start .pre)
 
 same-length-3 : tie.Need-same-length-3
@@ -48,7 +49,7 @@ same-length-3 c = search needs
 returns-3 : tie.Need-returns-3
 returns-3 c =
     let start = c .before .before .before .before .before .before .before .before in
-    let four = size-two-bits _ (start .pre .holding .size) (c .before .before .before .before .before .if1 .left) (c .before .before .before .before .if2 .left) in
+    let four = size-else _ (start .pre .holding .size) (c .before .before .before .before .before .if1 .left) (c .before .before .before .before .if2 .left) in
     let a = start .args in
     packed-of (a .values .now) (a .start) (a .end) (a .b) 4 (a .out .now) (a .at) _ four (c .before .before .pack-codes .ensures)
 

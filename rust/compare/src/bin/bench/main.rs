@@ -1,7 +1,7 @@
 //! Measures the proved functions beside the independent reader and writer, and prints tables:
 //!
 //! ```text
-//! cargo run --release --offline -p lxt-compare --bin bench [ratios] [stray] [growth] [hostile] [writing] [stack]
+//! cargo run --release --offline -p lxt-compare --bin bench [ratios] [stray] [growth] [hostile] [writing] [unpacking] [stack]
 //! ```
 //!
 //! Without a word it makes all parts.
@@ -16,10 +16,14 @@ mod ratios;
 mod stack;
 mod stray;
 mod timing;
+mod unpacking;
 mod writing;
 
 fn main() {
     let words: Vec<String> = std::env::args().skip(1).collect();
+    if words == [unpacking::TIMES] {
+        return unpacking::print_times();
+    }
     let asked = |part: &str| words.is_empty() || words.iter().any(|word| word == part);
     for (part, print) in [
         ("ratios", ratios::print as fn()),
@@ -27,6 +31,7 @@ fn main() {
         ("growth", growth::print),
         ("hostile", hostile::print),
         ("writing", writing::print),
+        ("unpacking", unpacking::print),
         ("stack", stack::print),
     ] {
         if asked(part) {

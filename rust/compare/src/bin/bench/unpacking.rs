@@ -1,0 +1,205 @@
+//! Unpacking: a value of 4,096 bits by each form, read by a change and by a value at a time, against safe Rust
+//! and against storing the symbols. Where `LXT_BENCH_BEFORE` names this program linked with another archive
+//! (`LXT_ARCHIVE_DIR`), both measure in turn, and what the other measured is shown as before.
+
+use std::env;
+use std::hint::black_box;
+use std::process::Command;
+
+use crate::timing::{median, seconds, shown, used};
+use lxt_compare::write::{independent, Rows};
+use lxt_generate::{Input, Random, BITS};
+
+const WIDTH: usize = 4_096;
+const SYMBOLS: [u8; 9] = *b"01ZXHUWL-";
+
+/// The word by which the other program is asked for its times.
+pub const TIMES: &str = "unpacking-times";
+
+/// A way in which symbols are packed, a file whose one facility has two values of it, and their data.
+struct Form {
+    name: &'static str,
+    file: Vec<u8>,
+    data: Vec<u8>,
+    unpack: fn(&[u8], &mut [u8]),
+}
+
+/// The forms by how many of the symbols a value has; a value of one symbol has no data.
+fn forms() -> [Form; 4] {
+    [
+        ("0 and 1, 1 bit each", 2, unpack_bits as fn(&[u8], &mut [u8])),
+        ("0 1 Z X, 2 bits each", 4, unpack_pairs),
+        ("all nine, 4 bits each", 9, unpack_codes),
+        ("one symbol, no data", 1, |_, bits| bits.fill(black_box(b'X'))),
+    ]
+    .map(|(name, codes, unpack)| {
+        let mut random = Random::new(codes as u64);
+        let mut input = Input::new();
+        input.facility(b"bus", BITS, WIDTH as i32 - 1, 0);
+        for time in 0..2 {
+            let symbol = |_| SYMBOLS[random.below(codes)];
+            input.change(0, time, &Vec::from_iter((0..WIDTH).map(symbol)));
+        }
+        let mut file = vec![0; 4 * WIDTH];
+        let length = independent(&input, &mut file).expect("a file") as usize;
+        file.truncate(length);
+        // The first change stands at 4: a command byte, one delta byte, the data.
+        let size = (WIDTH * [0, 0, 1, 0, 2, 0, 0, 0, 0, 4][codes]).div_ceil(8);
+        let data = file[6..6 + size].to_vec();
+        let mut bits = vec![0; WIDTH];
+        unpack(&data, &mut bits);
+        assert!(size == 0 || bits == input.value_of(0));
+        Form {
+            name,
+            file,
+            data,
+            unpack,
+        }
+    })
+}
+
+// ---- Unpacking a byte at a time in safe Rust ----
+
+fn unpack_bits(data: &[u8], bits: &mut [u8]) {
+    for (byte, symbols) in data.iter().zip(bits.chunks_mut(8)) {
+        for (place, symbol) in symbols.iter_mut().enumerate() {
+            *symbol = b'0' + (byte >> (7 - place) & 1);
+        }
+    }
+}
+
+fn unpack_pairs(data: &[u8], bits: &mut [u8]) {
+    for (byte, symbols) in data.iter().zip(bits.chunks_mut(4)) {
+        for (place, symbol) in symbols.iter_mut().enumerate() {
+            *symbol = SYMBOLS[usize::from(byte >> (6 - 2 * place) & 3)];
+        }
+    }
+}
+
+fn unpack_codes(data: &[u8], bits: &mut [u8]) {
+    for (byte, symbols) in data.iter().zip(bits.chunks_mut(2)) {
+        for (place, symbol) in symbols.iter_mut().enumerate() {
+            *symbol = SYMBOLS[usize::from(byte >> (4 - 4 * place) & 15)];
+        }
+    }
+}
+
+// ---- Measuring ----
+
+/// The least seconds of a run in many short ones.
+fn least(mut run: impl FnMut()) -> f64 {
+    let short = |_| seconds(|| (0..200).for_each(|_| run())) / 200.0;
+    (0..60).map(short).fold(f64::INFINITY, f64::min)
+}
+
+/// The seconds of the proved calls on each form: a change, and a value at a time.
+fn calls(forms: &[Form]) -> Vec<[f64; 2]> {
+    let mut bits = vec![0; WIDTH];
+    let calls = forms.iter().map(|form| {
+        let file = &form.file;
+        let change = least(|| used(lxt::change(black_box(file), 0, 4, &mut bits)));
+        let value = least(|| used(lxt::value_at(black_box(file), 0, 0, &mut bits)));
+        [change, value]
+    });
+    calls.collect()
+}
+
+/// The same calls of the independent reader.
+fn reference_calls(forms: &[Form]) -> Vec<[f64; 2]> {
+    let mut bits = vec![0; WIDTH];
+    let calls = forms.iter().map(|form| {
+        let file = &form.file;
+        let change = least(|| used(lxt_reference::change(black_box(file), 0, 4, &mut bits)));
+        let value = least(|| used(lxt_reference::value_at(black_box(file), 0, 0, &mut bits)));
+        [change, value]
+    });
+    calls.collect()
+}
+
+/// Prints the times of the calls, for the program that asked.
+pub fn print_times() {
+    for [change, value] in calls(&forms()) {
+        println!("{change:e} {value:e}");
+    }
+}
+
+/// What the program linked with another archive measures, where one is named.
+fn calls_before() -> Option<Vec<[f64; 2]>> {
+    let program = env::var_os("LXT_BENCH_BEFORE")?;
+    let output = Command::new(program).arg(TIMES).output();
+    let output = output.expect("the program of LXT_BENCH_BEFORE runs");
+    let printed = String::from_utf8(output.stdout).expect("its times");
+    let times = printed.lines().map(|line| {
+        let mut words = line.split(' ').map(|word| word.parse().expect("a time"));
+        [(); 2].map(|()| words.next().expect("two times"))
+    });
+    Some(times.collect())
+}
+
+/// The medians of several measurements of all forms.
+fn medians(all: &[Vec<[f64; 2]>]) -> Vec<[f64; 2]> {
+    let of = |form: usize, call: usize| median(all.iter().map(|one| one[form][call]).collect());
+    (0..all[0].len()).map(|form| [of(form, 0), of(form, 1)]).collect()
+}
+
+// ---- The tables ----
+
+/// A time before, and how often the time now goes into it.
+fn against(before: Option<f64>, now: f64) -> String {
+    match before {
+        Some(before) => format!("{} | {:.2}", shown(before), before / now),
+        None => "- | -".to_string(),
+    }
+}
+
+pub fn print() {
+    let forms = forms();
+    let (mut now, mut before, mut theirs) = (Vec::new(), Vec::new(), Vec::new());
+    for _ in 0..5 {
+        now.push(calls(&forms));
+        before.extend(calls_before());
+        theirs.push(reference_calls(&forms));
+    }
+    let (now, theirs) = (medians(&now), medians(&theirs));
+    let before = (!before.is_empty()).then(|| medians(&before));
+
+    println!("\nUnpacking: calls that read a value of {WIDTH} bits, each with judging its file\n");
+    println!("| Symbols | Call | Before | Before / proved | Proved | Safe Rust | Proved / safe Rust |");
+    println!("|---|---|---|---|---|---|---|");
+    for (place, form) in forms.iter().enumerate() {
+        for (call, what) in ["a change", "a value at a time"].into_iter().enumerate() {
+            let (ours, other) = (now[place][call], theirs[place][call]);
+            println!(
+                "| {} | {what} | {} | {} | {} | {:.2} |",
+                form.name,
+                against(before.as_ref().map(|it| it[place][call]), ours),
+                shown(ours),
+                shown(other),
+                ours / other,
+            );
+        }
+    }
+
+    // A value of one symbol is judged, found and stored alike: what a call takes longer is its unpacking.
+    println!("\nUnpacking alone: a change less one of one symbol, with storing the symbols\n");
+    println!("| Symbols | Before | Before / proved | Proved | Safe Rust | Proved / safe Rust | Storing | Proved / storing |");
+    println!("|---|---|---|---|---|---|---|---|");
+    let (stored, forms) = forms.split_last().expect("forms");
+    let mut bits = vec![0; WIDTH];
+    let storing = least(|| (stored.unpack)(&[], black_box(&mut bits)));
+    let alone = |all: &[[f64; 2]], place: usize| all[place][0] - all[forms.len()][0] + storing;
+    for (place, form) in forms.iter().enumerate() {
+        let ours = alone(&now, place);
+        let safe = least(|| (form.unpack)(black_box(&form.data), black_box(&mut bits)));
+        println!(
+            "| {} | {} | {} | {} | {:.2} | {} | {:.1} |",
+            form.name,
+            against(before.as_ref().map(|it| alone(it, place)), ours),
+            shown(ours),
+            shown(safe),
+            ours / safe,
+            shown(storing),
+            ours / storing,
+        );
+    }
+}
