@@ -14,6 +14,8 @@ use lxt_generate::{Input, Random, BITS, INTEGER, REAL};
 use lxt_reference::Judged;
 
 #[allow(dead_code)]
+mod packed;
+#[allow(dead_code)]
 mod tied;
 #[allow(dead_code)]
 mod wide;
@@ -57,6 +59,26 @@ fn compare(input: &[u8], what: &str, seen: &mut BTreeMap<u8, u32>) {
         digits.trim_end().parse().expect("a refusal's number")
     });
     *seen.entry(refusal).or_default() += 1;
+}
+
+#[test]
+fn packed_symbols() {
+    let mut random = Random::new(5);
+    for command in 0..3 {
+        for width in [1, 2, 3, 4, 5, 7, 8, 9, 15, 16, 17, 64, 65, 4_095, 4_096] {
+            let data = packed::any_data(command, width, |below| random.below(below));
+            let file = packed::one_change(packed::BITS, width as u32, command, &data);
+            let symbols = packed::symbols(command, width, &data);
+            let symbols = String::from_utf8(symbols).expect("symbols");
+            let expected = format!("facility 0 a bits {width}\nchange 0 4 7 {symbols}\ndone 1\n");
+            let lines = printed(&file);
+            assert_eq!(
+                String::from_utf8_lossy(&lines),
+                expected,
+                "command {command}"
+            );
+        }
+    }
 }
 
 #[test]

@@ -7,7 +7,7 @@ use std::hint::black_box;
 use std::process::Command;
 
 use crate::timing::{median, seconds, shown, used};
-use lxt_compare::write::{independent, Rows};
+use lxt_compare::write::independent;
 use lxt_generate::{Input, Random, BITS};
 
 const WIDTH: usize = 4_096;
@@ -27,10 +27,16 @@ struct Form {
 /// The forms by how many of the symbols a value has; a value of one symbol has no data.
 fn forms() -> [Form; 4] {
     [
-        ("0 and 1, 1 bit each", 2, unpack_bits as fn(&[u8], &mut [u8])),
+        (
+            "0 and 1, 1 bit each",
+            2,
+            unpack_bits as fn(&[u8], &mut [u8]),
+        ),
         ("0 1 Z X, 2 bits each", 4, unpack_pairs),
         ("all nine, 4 bits each", 9, unpack_codes),
-        ("one symbol, no data", 1, |_, bits| bits.fill(black_box(b'X'))),
+        ("one symbol, no data", 1, |_, bits| {
+            bits.fill(black_box(b'X'))
+        }),
     ]
     .map(|(name, codes, unpack)| {
         let mut random = Random::new(codes as u64);
@@ -139,7 +145,9 @@ fn calls_before() -> Option<Vec<[f64; 2]>> {
 /// The medians of several measurements of all forms.
 fn medians(all: &[Vec<[f64; 2]>]) -> Vec<[f64; 2]> {
     let of = |form: usize, call: usize| median(all.iter().map(|one| one[form][call]).collect());
-    (0..all[0].len()).map(|form| [of(form, 0), of(form, 1)]).collect()
+    (0..all[0].len())
+        .map(|form| [of(form, 0), of(form, 1)])
+        .collect()
 }
 
 // ---- The tables ----
@@ -164,7 +172,9 @@ pub fn print() {
     let before = (!before.is_empty()).then(|| medians(&before));
 
     println!("\nUnpacking: calls that read a value of {WIDTH} bits, each with judging its file\n");
-    println!("| Symbols | Call | Before | Before / proved | Proved | Safe Rust | Proved / safe Rust |");
+    println!(
+        "| Symbols | Call | Before | Before / proved | Proved | Safe Rust | Proved / safe Rust |"
+    );
     println!("|---|---|---|---|---|---|---|");
     for (place, form) in forms.iter().enumerate() {
         for (call, what) in ["a change", "a value at a time"].into_iter().enumerate() {
