@@ -1,21 +1,20 @@
 -- A law for each way out of the questions on values.
 use Prim.Native.Nat.{ℕ, _+_, _≤_, _<_}
 use mathlib.Core.Path.{_≡_, refl, sym, _∙_}
-use mathlib.Core.Bool.{Bool, _&&_}
-use mathlib.Core.List.{List, [], _++_}
+use mathlib.Core.Bool.{Bool}
+use mathlib.Core.List.{List, _++_}
 use lib.IntN.{ℤ}
 use lib.Signed.{mag}
 use mir.Syntax.{w64}
 use mir.Val.{toZ, ofZ}
 use mir.ValLaws.{toZ-ofZ}
 use lib.ListN.{length, drop, replicate, length-replicate}
-use lib.Dec.{ltb, leb, eqb, lit<}
+use lib.Dec.{ltb, eqb, lit<}
 use native.Mathlib.Omega.{arith}
-use borrow.Author.Tests.{ne-eqb, le-leb, lt-leb, leb-true, ltb-true, eqb-false}
+use borrow.Author.Tests.{ne-eqb, le-leb, lt-leb, ltb-true, eqb-false}
 use Rattle.lxt_format.specs.Basics.{_unless_, Answer, given, refused, any}
-use Rattle.lxt_format.specs.BasicsLaws.{on-test, and-both, neither, kept, stops}
-use Rattle.lxt_format.specs.Bytes.{byteAt}
-use Rattle.lxt_format.specs.Sections.{sectionOf, present, facilityCount, initialOf}
+use Rattle.lxt_format.specs.BasicsLaws.{neither, kept, stops}
+use Rattle.lxt_format.specs.Sections.{facilityCount, initialOf}
 use Rattle.lxt_format.specs.Geometry.{rootOf, factsOf}
 use Rattle.lxt_format.specs.Times.{timeOf}
 use Rattle.lxt_format.specs.BiasedTimes.{bias}
@@ -75,13 +74,6 @@ start-is s Bits width = refl
 start-is s Integer width = refl
 start-is s Real width = refl
 start-is s Text width = refl
-
--- the code of the initial symbol is that of a symbol
-initial-small : (s : List ℕ) → initialOf s < 9
-unfolding initialOf
-initial-small s =
-    let code : ℕ = byteAt s (sectionOf s 0x07) in
-    on-test (present s 0x07 && leb code 8) (λ h. rw h (let l = leb-true code 8 (and-both (present s 0x07) (leb code 8) h .1) in omega arith)) (λ h. rw h (lit< tt))
 
 -- ---- a chain that was asked about
 
@@ -209,9 +201,6 @@ module _ (s : List ℕ) (f : ℕ) (t : ℤ) (buffer : List ℕ) (c : Chain) (w :
     latest-asks = (times-there s f c (w .tables) asked-fine (w .followed h), chain-there s f c (w .tables) asked-fine (w .followed h))
 
     module _ (room : c .facts .width ≤ length buffer) where
-      pub start-asks : (c .tables .initial < 9) × (c .facts .width ≤ length buffer)
-      start-asks = (rw (tables-are s f c (w .tables) asked-fine (w .followed h) .initial) (initial-small s), room)
-
       module _ (o : ℕ) (eo : o ≡ latestAt s t (chainOf s (c .start))) where
         change-is : o ≡ changeAt s (rootOf s f) t
         unfolding changeAt

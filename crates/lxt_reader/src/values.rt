@@ -1,6 +1,6 @@
 // The values of changes, and the value at a time.
 ghost use mathlib.Core.Path.{_≡_};
-ghost use Prim.Native.Nat.{_≤_, _<_};
+ghost use Prim.Native.Nat.{_≤_};
 ghost use lib.ListN.{length};
 ghost use Rattle.lxt_format.specs.Basics.{given};
 ghost use Rattle.lxt_format.specs.Answers.{shown, valueSays, timedSays};
@@ -17,7 +17,7 @@ use lxt_values::value::read;
 
 // What a facility shows before its first change: the initial symbol at every place, or nothing.
 fn initial(kind: Kind, width: u32, code: u8, bits: &mut [u8]) -> Value
-    requires { ⌜ (code < 9) × (width ≤ length (now bits)) ⌝ }
+    requires { ⌜ width ≤ length (now bits) ⌝ }
     ensures { λ r. ⌜ (valueSays r ≡ given (shown (startContent kind width code))) × (now (bits .exit) ≡ holdingBits (startContent kind width code) (now (bits .entry))) ⌝ }
 {
     match kind {

@@ -1,5 +1,5 @@
 use Rattle.lxt_values.proofs.BiasLaws.{latest-at}
-use Rattle.lxt_reader.proofs.ValueWays.{value-refused, value-short, latest-asks, start-asks, value-start, value-readies, value-given}
+use Rattle.lxt_reader.proofs.ValueWays.{value-refused, value-short, latest-asks, value-start, value-readies, value-given}
 use borrow.Author.Needs.{needs}
 use Rattle.lxt_reader.proofs.values.at_time.Statement.{statement}
 use Rattle.lxt_reader.proofs.values.at_time.Tie as tie
@@ -32,9 +32,7 @@ latest-requires c κs =
     latest-asks _ _ (start .args .time) (start .args .bits .now) _ (c .before .before .before .before .before .before .before .before .find-chain .ensures) (c .before .before .before .before .before .before .if1 .left)
 
 initial-requires : tie.Need-initial-requires
-initial-requires c κs =
-    let start = c .before .before .before .before .before .before .before .before .before .before .before .before .before .before in
-    start-asks _ _ (start .args .time) (start .args .bits .now) _ (c .before .before .before .before .before .before .before .before .before .before .before .find-chain .ensures) (c .before .before .before .before .before .before .before .before .before .if1 .left) (c .before .before .before .before .before .before .if2 .left)
+initial-requires c κs = search needs
 
 same-length : tie.Need-same-length
 same-length c = search needs
