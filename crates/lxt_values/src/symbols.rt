@@ -52,8 +52,8 @@ pub fn fill(width: u32, symbol: u8, bits: &mut [u8])
 fn eight_of(byte: u8) -> u64
     ensures { λ r. ⌜ littleEndian 8 r ≡ symbolsOfByte 1 byte ⌝ }
 {
-    let own = byte as u64 * 0x0101_0101_0101_0101 & 0x0102_0408_1020_4080;
-    let codes = (own + 0x7F7F_7F7F_7F7F_7F7F) / 128 & 0x0101_0101_0101_0101;
+    let own = (byte as u64 * 0x0101_0101_0101_0101) & 0x0102_0408_1020_4080;
+    let codes = ((own + 0x7F7F_7F7F_7F7F_7F7F) / 128) & 0x0101_0101_0101_0101;
     codes + 0x3030_3030_3030_3030
 }
 
@@ -62,9 +62,9 @@ fn eight_of(byte: u8) -> u64
 fn four_of(byte: u8) -> u64
     ensures { λ r. ⌜ littleEndian 4 r ≡ symbolsOfByte 2 byte ⌝ }
 {
-    let codes = byte as u64 * 0x4010_0401 / 64 & 0x0303_0303;
+    let codes = (byte as u64 * 0x4010_0401 / 64) & 0x0303_0303;
     let low = codes & 0x0101_0101;
-    let high = codes / 2 & 0x0101_0101;
+    let high = (codes / 2) & 0x0101_0101;
     0x3030_3030 + low + high * 42 - (low & high) * 3
 }
 
@@ -75,7 +75,7 @@ fn two_of(byte: u8) -> u64
     symbol_of(byte / 16) as u64 + symbol_of(byte % 16) as u64 * 256
 }
 
-// The codes of b bits.
+// 8 / b codes of b bits.
 fn symbols_in(byte: u8, b: usize) -> u64
     requires { ⌜ Size b ⌝ }
     ensures { λ r. ⌜ littleEndian (8 / b) r ≡ symbolsOfByte b byte ⌝ }
@@ -113,7 +113,8 @@ fn step(file: &[u8], at: usize, b: usize, k: usize, count: usize, bits: &mut [u8
     put(symbols_in(file[at + k], b), count, bits, 8 / b * k);
 }
 
-// The symbols of `width` codes of b bits from `at` on. Answers how many steps that took.
+// The symbols of `width` codes of b bits from `at` on, a data byte a step; the last step may have fewer. Answers how
+// many steps it took: for 1 bit (width + 7) / 8.
 fn unpack(file: &[u8], at: usize, b: usize, width: usize, bits: &mut [u8]) -> usize
     requires { ⌜ Packed (now file) b width at × (width ≤ length (now bits)) ⌝ }
     ensures { λ r. ⌜ (r ≡ (b * width + 7) / 8) × (now (bits .exit) ≡ afterSteps (now (file .entry)) b width at r (now (bits .entry))) ⌝ }
