@@ -219,10 +219,10 @@ module _ (s : List ℕ) where
       let n′ : ℕ = facilityCount s in
       let every : all own (range 0 n′) ≡ true = rw (← p .count) (sym eb ∙ z) in
       sym (range-all (λ f. ltb (rootOf s f) n′) 0 n′
-        (λ f _ h.
-          let inside : f < n′ = omega arith in
-          let none : isAlias s f ≡ false = not-true (isAlias s f) (all-range own 0 n′ every f (omega arith) h) in
-          lt-ltb (rootOf s f) n′ (rw (root-self s f inside none) inside)))
+      (λ f _ h.
+      let inside : f < n′ = omega arith in
+      let none : isAlias s f ≡ false = not-true (isAlias s f) (all-range own 0 n′ every f (omega arith) h) in
+      lt-ltb (rootOf s f) n′ (rw (root-self s f inside none) inside)))
 
 -- a table in which no root is known
 pub none-known : (s : List ℕ) (n : ℕ) → n ≤ mostFacilities → Roots s n 0 (replicate 4096 0xFFFF_FFFF)

@@ -206,13 +206,13 @@ module _ (s : List ℕ) (b width o : ℕ) (a : Packed s b width o) where
       let lengths : length t ≡ length (take c (drop i new)) = e ∙ sym (length-take-le c (drop i new) (omega arith)) in
       ext-getD 0 t (take c (drop i new)) lengths
       (λ j l.
-        let small : j < c = rw (← e) l in
-        let there = in-byte b (a .size) k j (omega arith) in
-        let left : getD t j 0 ≡ symbolOf (x / 2 ^ (b * (8 / b - suc j)) % 2 ^ b) =
-        getD-take (width - i) (symbolsOfByte b x) j 0 (omega arith) ∙ byte-symbol b x j (omega arith) in
-        let right : getD (take c (drop i new)) j 0 ≡ symbolOf (x / 2 ^ (b * (8 / b - suc j)) % 2 ^ b) =
-        getD-take c (drop i new) j 0 small ∙ getD-drop i new j 0 ∙ symbol-at s b width o a (i + j) (omega arith) ∙ rw (there .0, there .1) in
-        left ∙ sym right)
+      let small : j < c = rw (← e) l in
+      let there = in-byte b (a .size) k j (omega arith) in
+      let left : getD t j 0 ≡ symbolOf (x / 2 ^ (b * (8 / b - suc j)) % 2 ^ b) =
+      getD-take (width - i) (symbolsOfByte b x) j 0 (omega arith) ∙ byte-symbol b x j (omega arith) in
+      let right : getD (take c (drop i new)) j 0 ≡ symbolOf (x / 2 ^ (b * (8 / b - suc j)) % 2 ^ b) =
+      getD-take c (drop i new) j 0 small ∙ getD-drop i new j 0 ∙ symbol-at s b width o a (i + j) (omega arith) ∙ rw (there .0, there .1) in
+      left ∙ sym right)
 
   module _ (d : List ℕ) (room : width ≤ length d) where
     -- a step lays its symbols

@@ -32,7 +32,7 @@ steps =
     ∷ row 0xC (stepsOf (0xA5 ∷ []) 8) ((0, spelled 8 0x3130313030313031) ∷ [])
     ∷ row 0xD (stepsOf (0xA5 ∷ 0x80 ∷ []) 9) ((0, spelled 8 0x3130313030313031) ∷ (8, spelled 1 0x31) ∷ [])
     ∷ row 0xE (stepsOf (0 ∷ 0 ∷ 0xFF ∷ 0xFF ∷ []) 32)
-        ((0, replicate 8 0x30) ∷ (8, replicate 8 0x30) ∷ (16, replicate 8 0x31) ∷ (24, replicate 8 0x31) ∷ [])
+    ((0, replicate 8 0x30) ∷ (8, replicate 8 0x30) ∷ (16, replicate 8 0x31) ∷ (24, replicate 8 0x31) ∷ [])
     ∷ row 0xF (stepsOf (0xFF ∷ []) 3) ((0, spelled 3 0x313131) ∷ [])
     ∷ row 0xF (heldAfter (0xFF ∷ []) 3 1) (spelled 5 0x3131313F3F)
     ∷ row 0x10 (length (stepsOf bytes512 4095)) 512

@@ -67,7 +67,7 @@ fn forms() -> [Form; 4] {
 // ---- Unpacking a byte at a time in safe Rust ----
 
 fn unpack_bits(data: &[u8], bits: &mut [u8]) {
-    for (byte, symbols) in data.iter().zip(bits.chunks_mut(8)) {
+    for (byte, symbols) in data.iter().zip(bits.chunks_exact_mut(8)) {
         for (place, symbol) in symbols.iter_mut().enumerate() {
             *symbol = b'0' + (byte >> (7 - place) & 1);
         }
@@ -75,7 +75,7 @@ fn unpack_bits(data: &[u8], bits: &mut [u8]) {
 }
 
 fn unpack_pairs(data: &[u8], bits: &mut [u8]) {
-    for (byte, symbols) in data.iter().zip(bits.chunks_mut(4)) {
+    for (byte, symbols) in data.iter().zip(bits.chunks_exact_mut(4)) {
         for (place, symbol) in symbols.iter_mut().enumerate() {
             *symbol = SYMBOLS[usize::from(byte >> (6 - 2 * place) & 3)];
         }
@@ -83,7 +83,7 @@ fn unpack_pairs(data: &[u8], bits: &mut [u8]) {
 }
 
 fn unpack_codes(data: &[u8], bits: &mut [u8]) {
-    for (byte, symbols) in data.iter().zip(bits.chunks_mut(2)) {
+    for (byte, symbols) in data.iter().zip(bits.chunks_exact_mut(2)) {
         for (place, symbol) in symbols.iter_mut().enumerate() {
             *symbol = SYMBOLS[usize::from(byte >> (4 - 4 * place) & 15)];
         }
