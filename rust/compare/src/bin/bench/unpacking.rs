@@ -98,33 +98,41 @@ fn least(mut run: impl FnMut()) -> f64 {
     (0..60).map(short).fold(f64::INFINITY, f64::min)
 }
 
-/// The seconds of the proved calls on each form: a change, and a value at a time.
-fn calls(forms: &[Form]) -> Vec<[f64; 2]> {
+/// The seconds of both calls on each form, which take a file and the lent bits: a change, and a value at a time.
+fn calls(
+    forms: &[Form],
+    change: impl Fn(&[u8], &mut [u8]),
+    value: impl Fn(&[u8], &mut [u8]),
+) -> Vec<[f64; 2]> {
     let mut bits = vec![0; WIDTH];
     let calls = forms.iter().map(|form| {
-        let file = &form.file;
-        let change = least(|| used(lxt::change(black_box(file), 0, 4, &mut bits)));
-        let value = least(|| used(lxt::value_at(black_box(file), 0, 0, &mut bits)));
-        [change, value]
+        [
+            least(|| change(black_box(&form.file), &mut bits)),
+            least(|| value(black_box(&form.file), &mut bits)),
+        ]
     });
     calls.collect()
 }
 
-/// The same calls of the independent reader.
-fn reference_calls(forms: &[Form]) -> Vec<[f64; 2]> {
-    let mut bits = vec![0; WIDTH];
-    let calls = forms.iter().map(|form| {
-        let file = &form.file;
-        let change = least(|| used(lxt_reference::change(black_box(file), 0, 4, &mut bits)));
-        let value = least(|| used(lxt_reference::value_at(black_box(file), 0, 0, &mut bits)));
-        [change, value]
-    });
-    calls.collect()
+fn proved(forms: &[Form]) -> Vec<[f64; 2]> {
+    calls(
+        forms,
+        |file, bits| used(lxt::change(file, 0, 4, bits)),
+        |file, bits| used(lxt::value_at(file, 0, 0, bits)),
+    )
+}
+
+fn reference(forms: &[Form]) -> Vec<[f64; 2]> {
+    calls(
+        forms,
+        |file, bits| used(lxt_reference::change(file, 0, 4, bits)),
+        |file, bits| used(lxt_reference::value_at(file, 0, 0, bits)),
+    )
 }
 
 /// Prints the times of the calls, for the program that asked.
 pub fn print_times() {
-    for [change, value] in calls(&forms()) {
+    for [change, value] in proved(&forms()) {
         println!("{change:e} {value:e}");
     }
 }
@@ -164,9 +172,9 @@ pub fn print() {
     let forms = forms();
     let (mut now, mut before, mut theirs) = (Vec::new(), Vec::new(), Vec::new());
     for _ in 0..5 {
-        now.push(calls(&forms));
+        now.push(proved(&forms));
         before.extend(calls_before());
-        theirs.push(reference_calls(&forms));
+        theirs.push(reference(&forms));
     }
     let (now, theirs) = (medians(&now), medians(&theirs));
     let before = (!before.is_empty()).then(|| medians(&before));
