@@ -194,9 +194,13 @@ typedef struct {
 uint32_t lxt_change(const uint8_t *file, size_t length, uint32_t facility, uint32_t offset, uint8_t *bits,
                     size_t room, int64_t *time, lxt_value *value, uint32_t *clean);
 
-/* The value at a time, which may be any: that of the change of highest offset whose time is at most that. */
+/* The value at a time, which may be any: that of the change of highest offset whose time is at most that.
+ *
+ * visited is how many changes the lookup went past: those of the facility's root with a later time, and the
+ * change answered, if any. An alias counts its root's. Before the first change it is all of them. It is at most
+ * half the bytes between C and T, since each change takes two bytes at least. Judging is not counted. */
 uint32_t lxt_value_at(const uint8_t *file, size_t length, uint32_t facility, int64_t time, uint8_t *bits,
-                      size_t room, lxt_value *value);
+                      size_t room, lxt_value *value, uint32_t *visited);
 
 /* The walk: all changes of the facilities asked for, the highest offset first, in calls of any size. All
  * changes of all facilities, where n is facilities of lxt_judge's summary:

@@ -14,14 +14,15 @@ use native.Mathlib.Omega.{arith}
 use native.Mathlib.Decide.{ℕ-discrete}
 use Rattle.lxt_format.specs.Basics.{Answer, given, refused, answer}
 use Rattle.lxt_format.specs.BasicsLaws.{on-test, answer-given, answer-refused}
-use Rattle.lxt_format.specs.Answers.{Shown, valueSays, timedSays, carrySays}
-use Rattle.lxt_format.specs.Questions.{readingRefusal, changeAsked, valueAsked, valueBuffer}
+use Rattle.lxt_format.specs.Answers.{Shown, valueSays, timedSays, lookupSays, carrySays}
+use Rattle.lxt_format.specs.Questions.{readingRefusal, changeAsked, valueRefusal, valueAsked, valueBuffer}
 use Rattle.lxt_format.specs.declared.CarryAnswer.{CarryAnswer}
 use Rattle.lxt_format.specs.declared.CarryAnswer.the-variants.{Handed}
 use Rattle.lxt_format.specs.declared.TimedValue.{TimedValue}
+use Rattle.lxt_format.specs.declared.Lookup.{Lookup}
 use Rattle.lxt_format.specs.declared.Value.{Value}
 use Rattle.lxt_format.specs.declared.Value.the-variants.{Bits, Real, Text}
-use Rattle.lxt_c.specs.Numbers.{numberOf, oneNumber, valueNumbers, shownNumbers, yesNo, besideValue, changeTime, changeClean, carryNumbers}
+use Rattle.lxt_c.specs.Numbers.{numberOf, oneNumber, valueNumbers, shownNumbers, yesNo, besideValue, changeTime, changeClean, lookupVisited, carryNumbers}
 
 is-given : {A : Type 0} → Answer A → ℕ
 is-given (given a) = 1
@@ -118,20 +119,29 @@ module _ (s : List ℕ) (f o room : ℕ) (t : TimedValue) (e : timedSays t ≡ c
     timed-clean clean ec before =
         ec ∙ (ap (λ a. yesNo (a .clean)) e ∙ beside-given (readingRefusal s f o room) _ (yesNo (changeAsked s f o room .clean)) before given-is)
 
--- the value at a time, which is read back from its bits
+-- the value at a time, which is read back from its bits, and how many changes were visited
 module _ (s : List ℕ) (f : ℕ) (t : ℤ) (fits : SFits w64 t) where
   pub at-buffer : (before after : List ℕ) → after ≡ valueBuffer s f (toZ w64 (ofZ w64 t)) before → after ≡ valueBuffer s f t before
   at-buffer before after h = h ∙ ap (λ z. valueBuffer s f z before) (toZ-ofZ w64 t fits)
 
-  module _ (room : ℕ) (v : Value) (e : valueSays v ≡ valueAsked s f (toZ w64 (ofZ w64 t)) room) where
-    at-time : valueSays v ≡ valueAsked s f t room
+  module _ (room : ℕ) (l : Lookup) (e : lookupSays l ≡ valueAsked s f (toZ w64 (ofZ w64 t)) room) (r : ℕ) (er : r ≡ numberOf (valueSays (l .value))) where
+    at-time : lookupSays l ≡ valueAsked s f t room
     at-time = e ∙ ap (λ z. valueAsked s f z room) (toZ-ofZ w64 t fits)
 
-    pub at-number : (r : ℕ) → r ≡ numberOf (valueSays v) → r ≡ numberOf (valueAsked s f t room)
-    at-number r h = h ∙ ap numberOf at-time
+    pub at-number : r ≡ numberOf (valueAsked s f t room .value)
+    at-number = er ∙ ap (λ a. numberOf (a .value)) at-time
 
-    pub at-numbers : (before after : List ℕ) → after ≡ valueNumbers (valueSays v) before → after ≡ valueNumbers (valueAsked s f t room) before
-    at-numbers before after h = h ∙ ap (λ a. valueNumbers a before) at-time
+    pub at-numbers : (before after : List ℕ) → after ≡ valueNumbers (valueSays (l .value)) before → after ≡ valueNumbers (valueAsked s f t room .value) before
+    at-numbers before after h = h ∙ ap (λ a. valueNumbers (a .value) before) at-time
+
+    pub at-refused : (r ≡ 0 → ⊥) → (before : ℕ) → before ≡ lookupVisited (valueAsked s f t room) before
+    unfolding valueAsked
+    at-refused n before = beside-refused (valueRefusal s f room) _ (valueAsked s f t room .visited) before (λ z. n (at-number ∙ z))
+
+    pub at-visited : r ≡ 0 → (before : ℕ) → l .visited ≡ lookupVisited (valueAsked s f t room) before
+    unfolding valueAsked
+    at-visited z before =
+        ap (λ a. a .visited) at-time ∙ beside-given (valueRefusal s f room) _ (valueAsked s f t room .visited) before (sym at-number ∙ z)
 
 -- pairs that were handed out
 module _ (a : CarryAnswer) (count : ℕ) (done : Bool) (e : a ≡ Handed count done) where

@@ -4,7 +4,7 @@ use mathlib.Core.Bool.{Bool}
 use mathlib.Core.List.{List, [], _∷_}
 use lib.IntN.{ℤ}
 use Rattle.lxt_format.specs.Basics.{if_then_else_, Answer, given, refused}
-use Rattle.lxt_format.specs.Answers.{Shown, bitsOf, realOf, textOf, nothing, Timed}
+use Rattle.lxt_format.specs.Answers.{Shown, bitsOf, realOf, textOf, nothing, Timed, LookedUp}
 use Rattle.lxt_format.specs.declared.Summary.{Summary}
 use Rattle.lxt_format.specs.declared.Facts.{Facts}
 use Rattle.lxt_format.specs.declared.Kind.{Kind}
@@ -74,6 +74,10 @@ changeTime a before = besideValue (a .value) (a .time) before
 
 abbrev pub changeClean : Timed → ℕ → ℕ
 changeClean a before = besideValue (a .value) (yesNo (a .clean)) before
+
+-- how many changes a lookup visited
+abbrev pub lookupVisited : LookedUp → ℕ → ℕ
+lookupVisited a before = besideValue (a .value) (a .visited) before
 
 -- carrying on: how many pairs were handed out, and whether all pending offsets are 0; what was there where it is refused
 unfoldable pub carryNumbers : Answer (ℕ × Bool) → List ℕ → List ℕ

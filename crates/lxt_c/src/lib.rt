@@ -6,7 +6,7 @@ ghost use Rattle.lxt_format.specs.Stray.{strayAsked};
 ghost use lib.ListN.{length};
 ghost use Rattle.lxt_format.specs.Answers.{numberSays, valueSays};
 ghost use Rattle.lxt_format.specs.Questions.{factsAsked, rootAsked, nameAsked, nameBuffer, beforeAsked, changeAsked, changeBuffer, valueAsked, valueBuffer};
-ghost use Rattle.lxt_c.specs.Numbers.{numberOf, judgeNumbers, judgeTimescale, kindNumber, factsNumbers, factsMsb, factsLsb, oneNumber, valueNumbers, yesNo, changeTime, changeClean};
+ghost use Rattle.lxt_c.specs.Numbers.{numberOf, judgeNumbers, judgeTimescale, kindNumber, factsNumbers, factsMsb, factsLsb, oneNumber, valueNumbers, yesNo, changeTime, changeClean, lookupVisited};
 use lxt_format::FactsAnswer;
 use lxt_format::Judgement;
 use lxt_format::Kind;
@@ -206,7 +206,7 @@ pub extern "C" fn lxt_change(
     0
 }
 
-// The value at a time; symbols are written into the lent bits buffer.
+// The value at a time, and how many changes were visited; symbols are written into the lent bits buffer.
 #[no_mangle]
 pub extern "C" fn lxt_value_at(
     file: &[u8],
@@ -214,11 +214,20 @@ pub extern "C" fn lxt_value_at(
     time: i64,
     bits: &mut [u8],
     answer: &mut [u64; 3],
+    visited: &mut u32,
 ) -> u32
-    ensures { λ r. ⌜ r ≡ numberOf (valueAsked (now (file .entry)) facility time (length (now (bits .entry)))) ⌝ }
+    ensures { λ r. ⌜ r ≡ numberOf (valueAsked (now (file .entry)) facility time (length (now (bits .entry))) .value) ⌝ }
     ensures { λ _. ⌜ now (bits .exit) ≡ valueBuffer (now (file .entry)) facility time (now (bits .entry)) ⌝ }
-    ensures { λ _. ⌜ now (answer .exit) ≡ valueNumbers (valueAsked (now (file .entry)) facility time (length (now (bits .entry)))) (now (answer .entry)) ⌝ }
+    ensures { λ _. ⌜ now (answer .exit) ≡ valueNumbers (valueAsked (now (file .entry)) facility time (length (now (bits .entry))) .value) (now (answer .entry)) ⌝ }
+    ensures { λ _. ⌜ now (visited .exit) ≡ lookupVisited (valueAsked (now (file .entry)) facility time (length (now (bits .entry)))) (now (visited .entry)) ⌝ }
 {
-    let v = values::at_time(file, facility, time, bits);
-    give_value(v, answer)
+    let l = values::at_time(file, facility, time, bits);
+    let v = l.value;
+    let refusal = give_value(v, answer);
+    if refusal != 0 {
+        return refusal;
+    }
+    let count = l.visited;
+    *visited = count;
+    0
 }

@@ -17,6 +17,7 @@ use Rattle.lxt_format.specs.declared.NumberAnswer.the-variants as ofNumb
 use Rattle.lxt_format.specs.declared.Value.{Value}
 use Rattle.lxt_format.specs.declared.Value.the-variants as ofValue
 use Rattle.lxt_format.specs.declared.TimedValue.{TimedValue}
+use Rattle.lxt_format.specs.declared.Lookup.{Lookup}
 use Rattle.lxt_format.specs.declared.StartAnswer.{StartAnswer}
 use Rattle.lxt_format.specs.declared.StartAnswer.the-variants as ofStart
 use Rattle.lxt_format.specs.declared.CarryAnswer.{CarryAnswer}
@@ -62,6 +63,14 @@ pub record Timed : Type 0 where
 
 abbrev pub timedSays : TimedValue → Timed
 timedSays t = record { time = t .time; value = valueSays (t .value); clean = t .clean }
+
+-- what is answered of a value at a time: the value, and how many changes were visited; where it is refused, 0
+pub record LookedUp : Type 0 where
+  pub value : Answer Shown
+  pub visited : ℕ
+
+abbrev pub lookupSays : Lookup → LookedUp
+lookupSays l = record { value = valueSays (l .value); visited = l .visited }
 
 abbrev pub startSays : StartAnswer → Answer (Unit {0})
 startSays ofStart.Started = given tt

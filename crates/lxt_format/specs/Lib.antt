@@ -38,3 +38,5 @@ pub mod Padding
 pub mod ZeroDeltas
 pub mod WideTimes
 pub mod StrayBytes
+pub mod Visited
+pub mod VisitedLaws

@@ -13,9 +13,9 @@ use Rattle.lxt_format.specs.Names.{nameOf}
 use Rattle.lxt_format.specs.Geometry.{rootOf, factsOf, syncOf}
 use Rattle.lxt_format.specs.Times.{timeOf}
 use Rattle.lxt_format.specs.Changes.{chainOf, previousOf, cleanAt}
-use Rattle.lxt_format.specs.Values.{Content, bits, real, text, notDriven, contentOf, contentAt}
+use Rattle.lxt_format.specs.Values.{Content, bits, real, text, notDriven, contentOf, visitedAt, contentAt}
 use Rattle.lxt_format.specs.Judge.{tablesRefusal, fileRefusal, signalOf}
-use Rattle.lxt_format.specs.Answers.{Shown, shown, Timed}
+use Rattle.lxt_format.specs.Answers.{shown, Timed, LookedUp}
 use Rattle.lxt_format.specs.Walk.{startOffsets, withOffsets, offsetsOf, recordAllowed, high, handedOut, offsetsAfter, flat}
 use Rattle.lxt_format.specs.declared.Facts.{Facts}
 use Rattle.lxt_format.specs.declared.Pair.{Pair}
@@ -100,8 +100,14 @@ changeBuffer s f o buffer = lentAfter (readingRefusal s f o (length buffer)) (ho
 unfoldable pub valueRefusal : List ℕ → ℕ → ℕ → ℕ
 valueRefusal s f room = facilityRefusal s f orElse 21 unless leb (factsOf s f .width) room
 
-unfoldable pub valueAsked : List ℕ → ℕ → ℤ → ℕ → Answer Shown
-valueAsked s f t room = answer (valueRefusal s f room) (shown (contentAt s (rootOf s f) t))
+-- Ask 7: "Add to the answer of "value at time t" the number of changes visited"; "refusals carry no count"
+unfoldable pub valueAsked : List ℕ → ℕ → ℤ → ℕ → LookedUp
+valueAsked s f t room =
+    let refusal : ℕ = valueRefusal s f room in
+    record {
+      value = answer refusal (shown (contentAt s (rootOf s f) t));
+      visited = if eqb refusal 0 then visitedAt s (rootOf s f) t else 0;
+    }
 
 unfoldable pub valueBuffer : List ℕ → ℕ → ℤ → List ℕ → List ℕ
 valueBuffer s f t buffer = lentAfter (valueRefusal s f (length buffer)) (holdingBits (contentAt s (rootOf s f) t) buffer) buffer

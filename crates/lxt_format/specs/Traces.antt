@@ -144,6 +144,52 @@ facilitiesNamed n M names =
     ++ spelled 5 0x0000000406
     ++ spelled 1 0xB4
 
+-- ---- the trace of the worked examples of requests
+
+-- Facilities 0 a bits 3, 1 r real, 2 s text, 3 b alias of 0, 4 i integer without changes. T = 198, C = 4, initial symbol Z. Each line of a section begins
+-- at the offset that its comment names.
+unfoldable pub requested : List ℕ
+unfolding spelled
+requested =
+    spelled 4 0x01380004
+    -- 4: facility 0, 011
+    ++ spelled 3 0x000260
+    -- 7: facility 2, "hi"
+    ++ spelled 5 0x0005686900
+    -- 12: facility 1, 1.5
+    ++ spelled 10 0x000A000000000000F83F
+    -- 22: facility 0, 2 bits a symbol, ZX1
+    ++ spelled 3 0x0110B4
+    -- 25: names
+    ++ spelled 8 0x000000050000000A
+    ++ spelled 20 0x0000610000007200000073000000620000006900
+    -- 53: geometry
+    ++ spelled 16 0x00000000000000020000000000000000
+    ++ spelled 16 0x00000000000000000000000000000002
+    ++ spelled 16 0x00000000000000000000000000000004
+    ++ spelled 16 0x00000000000000000000000000000008
+    ++ spelled 16 0x000000000000001F0000000000000001
+    -- 133: sync
+    ++ spelled 20 0x000000160000000C000000070000000000000000
+    -- 153: times: 4 is at 10, 7 at 20, 22 at 30
+    ++ spelled 12 0x000000030000000A0000001E
+    ++ spelled 12 0x00000004000000030000000F
+    ++ spelled 12 0x0000000A0000000A0000000A
+    -- 189: initial symbol Z
+    ++ spelled 1 0x02
+    -- 190: real test
+    ++ spelled 8 0x6E861BF0F9210940
+    -- 198: END
+    ++ spelled 1 0x00
+    ++ spelled 5 0x0000000401
+    ++ spelled 5 0x0000008502
+    ++ spelled 5 0x0000001903
+    ++ spelled 5 0x0000003504
+    ++ spelled 5 0x0000009906
+    ++ spelled 5 0x000000BD07
+    ++ spelled 5 0x000000BE08
+    ++ spelled 1 0xB4
+
 -- ---- a trace with more
 
 -- A trace with every kind, an alias of an alias, a reordered real, C above 4, sections in another order, tags that are skipped and a tag that is met

@@ -1,13 +1,13 @@
 -- Paper 01, "One change and its chain": the values of changes.
-use Prim.Native.Nat.{ℕ, _-_, max}
+use Prim.Native.Nat.{ℕ, _+_, _-_, max}
 use mathlib.Core.List.{List, [], _∷_, map}
-use lib.ListN.{getD, replicate}
+use lib.ListN.{length, getD, replicate}
 use lib.Seq.{slice}
 use lib.IntN.{ℤ}
-use lib.Signed.{leZ}
+use lib.Signed.{leZ, ltZ}
 use lib.Dec.{eqb}
 use lib.Ieee.{Float}
-use Rattle.lxt_format.specs.Basics.{if_then_else_}
+use Rattle.lxt_format.specs.Basics.{if_then_else_, select}
 use Rattle.lxt_format.specs.Bytes.{toZero}
 use Rattle.lxt_format.specs.Sections.{endOf, initialOf}
 use Rattle.lxt_format.specs.Geometry.{ownFacts, syncOf}
@@ -56,6 +56,14 @@ latestAt s t (o ∷ os) = if leZ (timeOf s o) t then max o (latestAt s t os) els
 
 unfoldable pub changeAt : List ℕ → ℕ → ℤ → ℕ
 changeAt s f t = latestAt s t (chainOf s (syncOf s f))
+
+-- Paper 02, Ask 7: "the number of changes visited: those of that root with time after t, plus the change answered, if any": among the offsets os, and of
+-- the root f
+unfoldable pub visitedIn : List ℕ → ℤ → List ℕ → ℕ
+visitedIn s t os = length (select (λ o. ltZ t (timeOf s o)) os) + (if eqb (latestAt s t os) 0 then 0 else 1)
+
+unfoldable pub visitedAt : List ℕ → ℕ → ℤ → ℕ
+visitedAt s f t = visitedIn s t (chainOf s (syncOf s f))
 
 -- "Where there is none, bits and integers show the initial symbol at every place, and reals and texts answer "not driven"."
 unfoldable pub initialBy : List ℕ → Kind → ℕ → Content

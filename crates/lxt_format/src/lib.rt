@@ -147,7 +147,7 @@ pub enum NumberAnswer {
     Refused(u8),
 }
 
-// A value, the answer to "the value at a time".
+// A value: that of a change, or that at a time.
 pub enum Value {
     // The symbols stand in the lent buffer.
     Bits { width: u32 },
@@ -165,6 +165,13 @@ pub struct TimedValue {
     pub time: i64,
     pub value: Value,
     pub clean: bool,
+}
+
+// The value at a time, and how many changes were visited to find it: those of the root with a later time,
+// and the change answered, if any. Where the value says "refused" this is 0.
+pub struct Lookup {
+    pub value: Value,
+    pub visited: u32,
 }
 
 // A facility's number and an offset: a pair of the walk record, whose offset is the pending one, or

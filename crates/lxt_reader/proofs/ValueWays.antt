@@ -12,20 +12,21 @@ use lib.ListN.{length, drop, replicate, length-replicate}
 use lib.Dec.{ltb, eqb, lit<}
 use native.Mathlib.Omega.{arith}
 use borrow.Author.Tests.{ne-eqb, le-leb, lt-leb, ltb-true, eqb-false}
-use Rattle.lxt_format.specs.Basics.{_unless_, Answer, given, refused, any}
+use Rattle.lxt_format.specs.Basics.{_unless_, Answer, given, any}
 use Rattle.lxt_format.specs.BasicsLaws.{neither, kept, stops}
 use Rattle.lxt_format.specs.Sections.{facilityCount, initialOf}
 use Rattle.lxt_format.specs.Geometry.{rootOf, factsOf}
 use Rattle.lxt_format.specs.Times.{timeOf}
 use Rattle.lxt_format.specs.BiasedTimes.{bias}
-use Rattle.lxt_format.specs.Reals as R
 use Rattle.lxt_format.specs.Changes.{signal, chainOf, cleanAt}
 use Rattle.lxt_format.specs.ChangesLaws.{Sound}
-use Rattle.lxt_format.specs.Values.{Content, bits, symbolOf, contentBy, contentOf, latestAt, changeAt, initialBy, contentAt}
-use Rattle.lxt_format.specs.Answers.{Shown, bitsOf, nothing, shown, Timed, timedSays}
+use Rattle.lxt_format.specs.Values.{Content, bits, symbolOf, contentBy, contentOf, latestAt, changeAt, visitedIn, visitedAt, initialBy, contentAt}
+use Rattle.lxt_format.specs.Answers.{Shown, bitsOf, nothing, shown, Timed, timedSays, LookedUp, lookupSays}
 use Rattle.lxt_format.specs.Questions.{written, holdingBits, facilityRefusal, changeRefusal, readingRefusal, changeAsked, changeBuffer, valueRefusal, valueAsked, valueBuffer, chainAsked}
 use Rattle.lxt_format.specs.Judge.{signalBy, signalOf, fileRefusal, faultFrom}
+use Rattle.lxt_format.specs.VisitedLaws.{visited-most}
 use Rattle.lxt_format.specs.declared.TimedValue.{TimedValue}
+use Rattle.lxt_format.specs.declared.Lookup.{Lookup}
 use Rattle.lxt_format.specs.declared.Kind.{Kind}
 use Rattle.lxt_format.specs.declared.Kind.the-variants.{Bits, Integer, Real, Text}
 use Rattle.lxt_values.specs.Reals.{order-places}
@@ -40,7 +41,7 @@ use Rattle.lxt_format.specs.Limits.{widestFacility}
 use Rattle.lxt_reader.specs.Changing.{Followed, Chained, Looked}
 use Rattle.lxt_reader.specs.declared.changes.Chain.{Chain}
 use Rattle.lxt_values.specs.Value.{Readies}
-use Rattle.lxt_reader.specs.Reading.{startContent, notRead}
+use Rattle.lxt_reader.specs.Reading.{startContent, notRead, notFound}
 
 -- ---- before the first change
 
@@ -179,43 +180,59 @@ module _ (s : List ℕ) (f o : ℕ) (buffer : List ℕ) (c : Chain) (w : Looked 
 
 module _ (s : List ℕ) (f : ℕ) (t : ℤ) (buffer : List ℕ) (c : Chain) (w : Chained s f c) where
   tells : (refusal : ℕ) → valueRefusal s f (length buffer) ≡ refusal → (refusal ≡ 0 → ⊥)
-      → (refused refusal ≡ valueAsked s f t (length buffer)) × (buffer ≡ valueBuffer s f t buffer)
+      → (notFound refusal ≡ valueAsked s f t (length buffer)) × (buffer ≡ valueBuffer s f t buffer)
   unfolding valueAsked valueBuffer
   tells refusal e n = (sym (rw e (simp (ne-eqb refusal 0 n))), sym (rw e (simp (ne-eqb refusal 0 n))))
 
-  pub value-refused : (c .refusal ≡ 0 → ⊥) → (refused (c .refusal) ≡ valueAsked s f t (length buffer)) × (buffer ≡ valueBuffer s f t buffer)
+  pub value-refused : (c .refusal ≡ 0 → ⊥) → (r : Lookup) → lookupSays r ≡ notFound (c .refusal)
+      → (lookupSays r ≡ valueAsked s f t (length buffer)) × (buffer ≡ valueBuffer s f t buffer)
   unfolding valueRefusal
-  value-refused n = tells (c .refusal) (rw (← w .refusal) (stops (c .refusal) _ n)) n
+  value-refused n r q =
+      let a = tells (c .refusal) (rw (← w .refusal) (stops (c .refusal) _ n)) n in
+      (q ∙ a .0, a .1)
 
   module _ (h : c .refusal ≡ 0) where
     asked-fine : facilityRefusal s f ≡ 0
     asked-fine = sym (w .refusal) ∙ h
 
-    pub value-short : length buffer < c .facts .width → (refused 21 ≡ valueAsked s f t (length buffer)) × (buffer ≡ valueBuffer s f t buffer)
+    pub value-short : length buffer < c .facts .width → (r : Lookup) → lookupSays r ≡ notFound 21
+        → (lookupSays r ≡ valueAsked s f t (length buffer)) × (buffer ≡ valueBuffer s f t buffer)
     unfolding valueRefusal
-    value-short short =
+    value-short short r q =
         let g : length buffer < factsOf s f .width = rw (w .followed h .facts) at short in
-        tells 21 (rw (asked-fine, lt-leb _ _ g)) (eqb-false 21 0 refl)
+        let a = tells 21 (rw (asked-fine, lt-leb _ _ g)) (eqb-false 21 0 refl) in
+        (q ∙ a .0, a .1)
 
     pub latest-asks : Ti.Times s (c .tables .times) (c .tables .«time_count») (c .tables .«wide_times») × Readable s (chainOf s (c .start))
     latest-asks = (times-there s f c (w .tables) asked-fine (w .followed h), chain-there s f c (w .tables) asked-fine (w .followed h))
 
     module _ (room : c .facts .width ≤ length buffer) where
-      module _ (o : ℕ) (eo : o ≡ latestAt s t (chainOf s (c .start))) where
+      module _ (o visited : ℕ) (found : (o ≡ latestAt s t (chainOf s (c .start))) × (visited ≡ visitedIn s t (chainOf s (c .start)))) where
         change-is : o ≡ changeAt s (rootOf s f) t
         unfolding changeAt
-        change-is = eo ∙ rw (w .followed h .start)
+        change-is = found .0 ∙ rw (w .followed h .start)
+
+        visited-is : visited ≡ visitedAt s (rootOf s f) t
+        unfolding visitedAt
+        visited-is = found .1 ∙ rw (w .followed h .start)
+
+        -- at most (T - C) / 2 fits 32 bits
+        pub visited-fits : visited < 4294967296
+        visited-fits =
+            let k = tables-are s f c (w .tables) asked-fine (w .followed h) in
+            omega (arith, visited-is, visited-most s f t asked-fine, k .end-high, k .end, k .long)
 
         value-is : (content : Content) → content ≡ contentAt s (rootOf s f) t → (v : Answer Shown) (after : List ℕ)
-            → v ≡ given (shown content) → after ≡ holdingBits content buffer → (v ≡ valueAsked s f t (length buffer)) × (after ≡ valueBuffer s f t buffer)
+            → v ≡ given (shown content) → after ≡ holdingBits content buffer
+            → (_≡_ {A = LookedUp} (record { value = v; visited = visited }) (valueAsked s f t (length buffer))) × (after ≡ valueBuffer s f t buffer)
         unfolding valueRefusal valueAsked valueBuffer
         value-is content ec v after ev ea =
             let g : factsOf s f .width ≤ length buffer = rw (w .followed h .facts) at room in
-            (ev ∙ rw (asked-fine, le-leb _ _ g, ec), ea ∙ rw (asked-fine, le-leb _ _ g, ec))
+            (rw (asked-fine, le-leb _ _ g, ev, ec, visited-is), ea ∙ rw (asked-fine, le-leb _ _ g, ec))
 
         pub value-start : o ≡ 0 → (v : Answer Shown) (after : List ℕ) → v ≡ given (shown (startContent (c .facts .kind) (c .facts .width) (c .tables .initial)))
             → after ≡ holdingBits (startContent (c .facts .kind) (c .facts .width) (c .tables .initial)) buffer
-            → (v ≡ valueAsked s f t (length buffer)) × (after ≡ valueBuffer s f t buffer)
+            → (_≡_ {A = LookedUp} (record { value = v; visited = visited }) (valueAsked s f t (length buffer))) × (after ≡ valueBuffer s f t buffer)
         unfolding contentAt factsOf
         value-start z v after ev ea =
             let k = tables-are s f c (w .tables) asked-fine (w .followed h) in
@@ -228,15 +245,15 @@ module _ (s : List ℕ) (f : ℕ) (t : ℤ) (buffer : List ℕ) (c : Chain) (w :
           latest-fine : Sound s (signalBy s (c .facts)) o
           unfolding faultFrom factsOf
           latest-fine =
-              rw (eo, w .followed h .facts)
-              (latest-change-sound s _ (c .start) (w .followed h .fault) t (λ z. some (eo ∙ z)))
+              rw (found .0, w .followed h .facts)
+              (latest-change-sound s _ (c .start) (w .followed h .fault) t (λ z. some (found .0 ∙ z)))
 
           pub value-readies : Readies s (c .tables .end) (c .tables .order) (c .facts .kind) (c .facts .width) o (length buffer)
           value-readies = readies s f c (w .tables) asked-fine (w .followed h) o (length buffer) latest-fine room
 
           pub value-given : (v : Answer Shown) (after : List ℕ) → v ≡ given (shown (contentBy s (c .facts .kind) (c .facts .width) o))
               → after ≡ holdingBits (contentBy s (c .facts .kind) (c .facts .width) o) buffer
-              → (v ≡ valueAsked s f t (length buffer)) × (after ≡ valueBuffer s f t buffer)
+              → (_≡_ {A = LookedUp} (record { value = v; visited = visited }) (valueAsked s f t (length buffer))) × (after ≡ valueBuffer s f t buffer)
           unfolding contentAt
           value-given v after ev ea =
               value-is (contentBy s (c .facts .kind) (c .facts .width) o)

@@ -4,7 +4,7 @@ use mathlib.Core.Bool.{false}
 use lib.ListN.{replicate}
 use lib.IntN.{pos}
 use Rattle.lxt_format.specs.Basics.{refused}
-use Rattle.lxt_format.specs.Answers.{Timed}
+use Rattle.lxt_format.specs.Answers.{Timed, LookedUp}
 use Rattle.lxt_format.specs.Values.{Content, bits, notDriven, symbolOf}
 use Rattle.lxt_format.specs.declared.Kind.{Kind}
 use Rattle.lxt_format.specs.declared.Kind.the-variants.{Bits, Integer, Real, Text}
@@ -19,3 +19,7 @@ startContent Text width code = notDriven
 -- the answer of a change that is refused
 abbrev pub notRead : ℕ → Timed
 notRead n = record { time = pos 0; value = refused n; clean = false }
+
+-- the answer of a lookup that is refused
+abbrev pub notFound : ℕ → LookedUp
+notFound n = record { value = refused n; visited = 0 }

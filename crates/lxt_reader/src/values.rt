@@ -3,12 +3,13 @@ ghost use mathlib.Core.Path.{_≡_};
 ghost use Prim.Native.Nat.{_≤_};
 ghost use lib.ListN.{length};
 ghost use Rattle.lxt_format.specs.Basics.{given};
-ghost use Rattle.lxt_format.specs.Answers.{shown, valueSays, timedSays};
+ghost use Rattle.lxt_format.specs.Answers.{shown, valueSays, timedSays, lookupSays};
 ghost use Rattle.lxt_format.specs.Questions.{holdingBits, changeAsked, changeBuffer, valueAsked, valueBuffer};
-ghost use Rattle.lxt_reader.specs.Reading.{startContent, notRead};
+ghost use Rattle.lxt_reader.specs.Reading.{startContent, notRead, notFound};
 use crate::changes;
 use lxt_changes::padding::is_clean;
 use lxt_format::Kind;
+use lxt_format::Lookup;
 use lxt_format::TimedValue;
 use lxt_format::Value;
 use lxt_values::symbols;
@@ -66,21 +67,31 @@ pub fn of_change(file: &[u8], facility: u32, offset: u32, bits: &mut [u8]) -> Ti
     TimedValue { time, value, clean }
 }
 
-// The value at a time, by the latest change; its symbols fill the first bytes of the lent buffer.
-pub fn at_time(file: &[u8], facility: u32, time: i64, bits: &mut [u8]) -> Value
-    ensures { λ r. ⌜ (valueSays r ≡ valueAsked (now (file .entry)) facility time (length (now (bits .entry)))) × (now (bits .exit) ≡ valueBuffer (now (file .entry)) facility time (now (bits .entry))) ⌝ }
+fn no_value(n: u8) -> Lookup
+    ensures { λ r. ⌜ lookupSays r ≡ notFound n ⌝ }
+{
+    Lookup {
+        value: Value::Refused(n),
+        visited: 0,
+    }
+}
+
+// The value at a time, by the latest change, and how many changes were visited; its symbols fill the first
+// bytes of the lent buffer.
+pub fn at_time(file: &[u8], facility: u32, time: i64, bits: &mut [u8]) -> Lookup
+    ensures { λ r. ⌜ (lookupSays r ≡ valueAsked (now (file .entry)) facility time (length (now (bits .entry)))) × (now (bits .exit) ≡ valueBuffer (now (file .entry)) facility time (now (bits .entry))) ⌝ }
 {
     let chain = changes::find_chain(file, facility);
     if chain.refusal != 0 {
-        return Value::Refused(chain.refusal);
+        return no_value(chain.refusal);
     }
     let shape = chain.facts;
     let kind = shape.kind;
     if bits.len() < shape.width as usize {
-        return Value::Refused(21);
+        return no_value(21);
     }
     let t = chain.tables;
-    let o = times::latest(
+    let found = times::latest(
         file,
         t.times as usize,
         t.time_count,
@@ -88,9 +99,12 @@ pub fn at_time(file: &[u8], facility: u32, time: i64, bits: &mut [u8]) -> Value
         chain.start as usize,
         time,
     );
-    if o == 0 {
-        return initial(kind, shape.width, t.initial, bits);
+    let visited = found.visited as u32;
+    if found.offset == 0 {
+        let value = initial(kind, shape.width, t.initial, bits);
+        return Lookup { value, visited };
     }
     let order = t.order;
-    read(file, t.end, order, kind, shape.width, o, bits)
+    let value = read(file, t.end, order, kind, shape.width, found.offset, bits);
+    Lookup { value, visited }
 }

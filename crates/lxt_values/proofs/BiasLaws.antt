@@ -13,7 +13,7 @@ use mir.Val.{Fits, SFits, toZ, ofZ}
 use mir.ValLaws.{toZ-ofZ}
 use Rattle.lxt_format.specs.BiasedTimes.{bias, biased, unbiased, unbiased-biased}
 use Rattle.lxt_format.specs.Changes.{chainOf}
-use Rattle.lxt_format.specs.Values.{latestAt}
+use Rattle.lxt_format.specs.Values.{latestAt, visitedIn}
 use Rattle.lxt_values.specs.Times.{Limit}
 
 -- ---- without the bias
@@ -69,5 +69,8 @@ module _ (s : List ℕ) (t : ℤ) (f : SFits w64 t) where
   pub limit-at : (x P : ℕ) → x ≡ biased (toZ w64 (ofZ w64 t)) → Limit s (unbiased x) P → Limit s (toZ w64 (ofZ w64 t)) P
   limit-at x P e h = let same : unbiased x ≡ toZ w64 (ofZ w64 t) = ap unbiased (e ∙ ap biased (back t f)) ∙ (unbiased-biased t (f .sfits) ∙ sym (back t f)) in rw same at h
 
-  pub latest-at : (r from : ℕ) → r ≡ latestAt s (toZ w64 (ofZ w64 t)) (chainOf s from) → r ≡ latestAt s t (chainOf s from)
-  latest-at r from h = h ∙ ap (λ z. latestAt s z (chainOf s from)) (back t f)
+  pub latest-at : (r visited from : ℕ)
+      → (r ≡ latestAt s (toZ w64 (ofZ w64 t)) (chainOf s from)) × (visited ≡ visitedIn s (toZ w64 (ofZ w64 t)) (chainOf s from))
+      → (r ≡ latestAt s t (chainOf s from)) × (visited ≡ visitedIn s t (chainOf s from))
+  latest-at r visited from h =
+      (h .0 ∙ ap (λ z. latestAt s z (chainOf s from)) (back t f), h .1 ∙ ap (λ z. visitedIn s z (chainOf s from)) (back t f))

@@ -27,7 +27,6 @@ use Rattle.lxt_format.specs.UnpackLaws.{Size}
 use Rattle.lxt_values.proofs.SymbolLaws.{symbols-length}
 use Rattle.lxt_values.proofs.SoundSymbols.{sound-drawn}
 use Rattle.lxt_values.specs.Reals.{Places}
-use Rattle.lxt_values.specs.Times as Ti
 use Rattle.lxt_values.specs.Value.{Readies}
 
 -- ---- symbols

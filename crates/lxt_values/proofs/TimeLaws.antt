@@ -1,6 +1,6 @@
 -- The laws of times: the time of a change, the limit of a time, and the latest change below it.
 use Prim.Native.Nat.{ℕ, zero, suc, _+_, _≤_, _<_}
-use mathlib.Core.Path.{_≡_, refl, sym, _∙_, ap}
+use mathlib.Core.Path.{_≡_, refl, sym, _∙_}
 use mathlib.Core.Bool.{Bool, true, false}
 use mathlib.Core.List.{List, [], _∷_}
 use lib.ListN.{length, getD}
@@ -17,7 +17,8 @@ use Rattle.lxt_format.specs.TimesLaws.{positions-never-fall, Decides, entry-0-d
 use Rattle.lxt_format.specs.BiasedTimes.{bias, biased, unbiased, biased-unbiased, leZ-biased, biasedTimes, biased-time, time-mag, times-never-fall}
 use Rattle.lxt_format.specs.Changes.{dataAt, previousOf, chainWithin, chainOf}
 use Rattle.lxt_format.specs.ChangesLaws.{previous-lt, chain-none, chain-more}
-use Rattle.lxt_format.specs.Values.{latestAt}
+use Rattle.lxt_format.specs.Values.{latestAt, visitedIn}
+use Rattle.lxt_format.specs.VisitedLaws.{none-visited, visited-passed, visited-answered}
 use Rattle.lxt_values.specs.Times.{Times, Limit, Readable, change}
 use Rattle.lxt_values.specs.Entries.{EntryAt}
 use Rattle.lxt_values.proofs.EntryLaws.{table, some-entry, tells}
@@ -176,49 +177,58 @@ latest-passed : (s : List ℕ) (t : ℤ) (o : ℕ) (os : List ℕ) → leZ (time
 unfolding latestAt
 latest-passed s t o os e = rw e
 
--- the latest change from o on is the latest from `from` on
-pub record Falling (s : List ℕ) (t : ℤ) (from o : ℕ) : Type 0 where
+-- the latest change from o on is the latest from `from` on; `visited` changes lie above o, and with those that are visited from o on they are all
+pub record Falling (s : List ℕ) (t : ℤ) (from o visited : ℕ) : Type 0 where
   pub readable : Readable s (chainOf s o)
   pub left : latestAt s t (chainOf s o) ≡ latestAt s t (chainOf s from)
+  pub counted : visited + visitedIn s t (chainOf s o) ≡ visitedIn s t (chainOf s from)
+  pub above : visited + o ≤ from
 
 -- at the start of the chain
-pub falling-begun : (s : List ℕ) (t : ℤ) (from : ℕ) → Readable s (chainOf s from) → Falling s t from from
-falling-begun s t from r = record { readable = r; left = refl }
+pub falling-begun : (s : List ℕ) (t : ℤ) (from : ℕ) → Readable s (chainOf s from) → Falling s t from from 0
+falling-begun s t from r = record { readable = r; left = refl; counted = omega arith; above = omega arith }
 
-module _ (s : List ℕ) (t : ℤ) (from o : ℕ) (w : Falling s t from o) where
+module _ (s : List ℕ) (t : ℤ) (from o visited : ℕ) (w : Falling s t from o visited) where
   -- the chain ends
-  pub chain-ended : o ≡ 0 → 0 ≡ latestAt s t (chainOf s from)
+  pub chain-ended : o ≡ 0 → (0 ≡ latestAt s t (chainOf s from)) × (visited ≡ visitedIn s t (chainOf s from))
   unfolding latestAt
-  chain-ended e = rw (e, chain-none s) at (w .left)
+  chain-ended e =
+      let none : visitedIn s t (chainOf s o) ≡ 0 = rw (e, chain-none s) (none-visited s t) in
+      ((rw (e, chain-none s) at (w .left)), omega (arith, w .counted))
 
-  module _ (P : ℕ) (limit : Limit s t P) where
-    -- a change below the limit
-    pub first-below : o < P → o ≡ latestAt s t (chainOf s from)
-    first-below h = elim (ℕ-discrete o 0) [ yes e ↦ e ∙ chain-ended e | no n ↦ found n ∙ w .left ]
-      where
-        found : (o ≡ 0 → ⊥) → o ≡ latestAt s t (chainOf s o)
-        found n =
-            let more = chain-more s o (omega arith) in
-            let r = head-readable (rw more at (w .readable)) in
-            let low : leZ (timeOf s o) t ≡ true = limit .below o (r .0) ∙ lt-ltb o P h in
-            let le = latest-le s t (previousOf s o) in
-            let lt = previous-lt s o (omega arith) in
-            rw more (latest-taken s t o (chainOf s (previousOf s o)) low (omega arith))
+  module _ (n : o ≡ 0 → ⊥) where
+    -- the change at o, and those before it
+    more : chainOf s o ≡ o ∷ chainOf s (previousOf s o)
+    more = chain-more s o (omega arith)
 
-    module _ (n : o ≡ 0 → ⊥) where
-      -- the change at o, and those before it
-      more : chainOf s o ≡ o ∷ chainOf s (previousOf s o)
-      more = chain-more s o (omega arith)
+    -- its delta can be read
+    pub change-readable : (o < length s) × (dataAt s o ≤ length s)
+    change-readable = head-readable (rw more at (w .readable))
 
-      -- its delta can be read
-      pub change-readable : (o < length s) × (dataAt s o ≤ length s)
-      change-readable = head-readable (rw more at (w .readable))
+    module _ (P : ℕ) (limit : Limit s t P) where
+      -- a change below the limit, and so are all that follow
+      pub first-below : o < P → (o ≡ latestAt s t (chainOf s from)) × (visited + 1 ≡ visitedIn s t (chainOf s from))
+      first-below h = (found ∙ w .left, omega (arith, w .counted, visited-answered s t o (omega arith) found low))
+        where
+          low : (p : ℕ) → p ≤ o → leZ (timeOf s p) t ≡ true
+          low p l = limit .below p (omega (arith, change-readable .0)) ∙ lt-ltb p P (omega arith)
+
+          found : o ≡ latestAt s t (chainOf s o)
+          found =
+              let le = latest-le s t (previousOf s o) in
+              let lt = previous-lt s o (omega arith) in
+              rw more (latest-taken s t o (chainOf s (previousOf s o)) (low o (omega arith)) (omega arith))
 
       -- a change that is not below it
-      pub falling-turn : P ≤ o → (p : ℕ) → p ≡ previousOf s o → Falling s t from p
+      pub falling-turn : P ≤ o → (p : ℕ) → p ≡ previousOf s o → Falling s t from p (visited + 1)
       falling-turn h p e =
           let high : leZ (timeOf s o) t ≡ false = limit .below o (change-readable .0) ∙ le-ltb o P h in
+          let rest = chainOf s (previousOf s o) in
+          let passed : visitedIn s t (chainOf s o) ≡ suc (visitedIn s t rest) = rw more (visited-passed s t o rest high) in
+          let lt = previous-lt s o (omega arith) in
           record {
             readable = rw e (tail-readable (rw more at (w .readable)));
-            left = rw e (latest-passed s t o (chainOf s (previousOf s o)) high ∙ rw (← more) (w .left));
+            left = rw e (latest-passed s t o rest high ∙ rw (← more) (w .left));
+            counted = rw e (omega (arith, w .counted));
+            above = omega (arith, w .above);
           }

@@ -3,7 +3,7 @@ ghost use mathlib.Core.Path.{_≡_};
 ghost use Rattle.lxt_format.specs.Times.{timeOf};
 ghost use Rattle.lxt_format.specs.BiasedTimes.{biased, unbiased};
 ghost use Rattle.lxt_format.specs.Changes.{chainOf};
-ghost use Rattle.lxt_format.specs.Values.{latestAt};
+ghost use Rattle.lxt_format.specs.Values.{latestAt, visitedIn};
 ghost use Rattle.lxt_values.specs.Times.{Times, Limit, Readable};
 use crate::entries;
 use lxt_changes::delta;
@@ -77,19 +77,28 @@ fn limit(file: &[u8], times: usize, m: u32, wide: bool, t: u64) -> usize
     file.len()
 }
 
-// The latest change of the chain from `from` on with a time of at most `t`, or 0: the chain falls, so
-// that it is the first one below the limit.
-pub fn latest(file: &[u8], times: usize, m: u32, wide: bool, from: usize, t: i64) -> usize
+// The offset of a change that was looked for, 0 where there is none, and how many changes were visited.
+pub struct Found {
+    pub offset: usize,
+    pub visited: usize,
+}
+
+// The latest change of the chain from `from` on with a time of at most `t`, if there is one: the chain
+// falls, so that it is the first one below the limit. All changes up to it are visited, and all of the
+// chain where there is none.
+pub fn latest(file: &[u8], times: usize, m: u32, wide: bool, from: usize, t: i64) -> Found
     requires { ⌜ Times (now file) times m wide × Readable (now file) (chainOf (now file) from) ⌝ }
-    ensures { λ r. ⌜ r ≡ latestAt (now (file .entry)) t (chainOf (now (file .entry)) from) ⌝ }
+    ensures { λ r. ⌜ (r .offset ≡ latestAt (now (file .entry)) t (chainOf (now (file .entry)) from)) × (r .visited ≡ visitedIn (now (file .entry)) t (chainOf (now (file .entry)) from)) ⌝ }
 {
     let end = limit(file, times, m, wide, with_bias(t));
     let mut o = from;
-    while end <= o {
-        if o == 0 {
-            return 0;
+    let mut visited: usize = 0;
+    while o != 0 {
+        visited = visited + 1;
+        if o < end {
+            return Found { offset: o, visited };
         }
         o = delta::previous(file, o);
     }
-    o
+    Found { offset: 0, visited }
 }

@@ -195,6 +195,17 @@ impl Compared {
         ]
     }
 
+    /// How many values at a time were met by the changes visited.
+    pub fn visited(&self) -> [(&'static str, u64); 4] {
+        let [all, none, one, several] = self.questions.visited();
+        [
+            ("values before all changes, each visited", all),
+            ("values without changes to visit", none),
+            ("values with one change visited", one),
+            ("values with several visited, the last answered", several),
+        ]
+    }
+
     /// How many times 64-bit times were met: accepted files with them, and times outside 32 bits.
     pub fn long_times(&self) -> [(&'static str, u64); 6] {
         let [below, past, asked_below, asked_past, asked_outside] = self.questions.outside();

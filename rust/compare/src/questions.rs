@@ -48,7 +48,7 @@ pub const ALL: Most = Most {
 };
 
 /// At most so many of a list, evenly, with its first and last one.
-pub(crate) fn sample<T: Copy>(list: &[T], most: usize) -> Vec<T> {
+pub fn sample<T: Copy>(list: &[T], most: usize) -> Vec<T> {
     if list.len() <= most {
         return list.to_vec();
     }
@@ -96,6 +96,8 @@ pub struct Seen {
     shared: [u64; 3],
     /// The answers about times outside 32 bits, as `outside` gives them.
     outside: [u64; 5],
+    /// The values by the changes visited, as `visited` gives them.
+    visited: [u64; 4],
 }
 
 impl Seen {
@@ -140,16 +142,33 @@ impl Seen {
         self.outside
     }
 
+    /// How many values were asked for, by the changes visited: before all changes, where each of them is visited
+    /// and none is answered; of roots without changes; with one change visited; and with several, the last of
+    /// which is answered.
+    pub fn visited(&self) -> [u64; 4] {
+        self.visited
+    }
+
     pub fn report(&self, what: &str) {
         let total: u64 = self.asked.values().sum();
         let [after, before, between] = self.shared;
         println!("{what}: {total} questions {:?}", self.asked);
         println!("  by the last of several entries {after}, by entry 0 of several {before}");
         println!(
-            "  between their times {between}, outside 32 bits {:?}",
-            self.outside
+            "  between their times {between}, outside 32 bits {:?}, visited {:?}",
+            self.outside, self.visited
         );
     }
+}
+
+/// The changes of the root of a facility.
+#[derive(Clone, Copy, Default)]
+struct Own {
+    count: usize,
+    /// The time of the oldest.
+    first: Option<i64>,
+    /// How many there can be, of two bytes each.
+    most: usize,
 }
 
 /// A file, what the independent reader knows about it, and what was compared.
@@ -158,6 +177,8 @@ struct Asked<'a> {
     judged: Result<Judged<'a>, u8>,
     entries: Entries,
     long_times: bool,
+    /// Of the facility that is asked about.
+    own: Own,
     what: &'a str,
     seen: &'a mut Seen,
 }
@@ -172,6 +193,7 @@ impl<'a> Asked<'a> {
             judged,
             entries,
             long_times,
+            own: Own::default(),
             what,
             seen,
         }
@@ -253,21 +275,53 @@ impl<'a> Asked<'a> {
 
     fn value_at(&mut self, facility: u32, time: i64, room: usize) {
         let (mut ours, mut theirs) = (marked(room), marked(room));
-        let proved = lxt::value_at(self.file, facility, time, lent(&mut ours)).map(plain);
+        let proved = lxt::value_at(self.file, facility, time, lent(&mut ours));
+        let proved = proved.map(|lookup| lxt_reference::Lookup {
+            value: plain(lookup.value),
+            visited: lookup.visited,
+        });
         let expected = self.expect(|judged| judged.value_at(facility, time, lent(&mut theirs)));
+        self.same(
+            ("value_at", &[facility.into(), time, room as i64]),
+            |lookup| sort_of(&lookup.value),
+            (proved, &ours),
+            (expected, &theirs),
+        );
+        if let Ok(lookup) = expected {
+            self.count_outside(time);
+            self.count_visited(time, lookup.visited as usize);
+        }
+    }
+
+    /// Counts an answered value where its time leaves 32 bits.
+    fn count_outside(&mut self, time: i64) {
         let places = match self.long_times {
             true => [2, 3],
             false => [4, 4],
         };
-        if let (Ok(_), Some(side)) = (expected, outside(time)) {
+        if let Some(side) = outside(time) {
             self.seen.outside[places[side]] += 1;
         }
-        self.same(
-            ("value_at", &[facility.into(), time, room as i64]),
-            sort_of,
-            (proved, &ours),
-            (expected, &theirs),
-        );
+    }
+
+    /// Counts an answered value by the changes visited: all where none is answered, else at least that one.
+    fn count_visited(&mut self, time: i64, visited: usize) {
+        let Own { count, first, most } = self.own;
+        assert!(visited <= most, "{}", self.what);
+        let answered = first.is_some_and(|first| first <= time);
+        match answered {
+            true => assert!((1..=count).contains(&visited), "{}", self.what),
+            false => assert_eq!(visited, count, "{}", self.what),
+        }
+        let met = [
+            !answered && visited > 0,
+            !answered && visited == 0,
+            visited == 1,
+            answered && visited > 1,
+        ];
+        for (count, met) in self.seen.visited.iter_mut().zip(met) {
+            *count += u64::from(met);
+        }
     }
 
     fn facts(&mut self, facility: u32) {
@@ -397,7 +451,13 @@ pub fn compare(file: &[u8], what: &str, most: Most, seen: &mut Seen) {
         let mut room = vec![0; facts.width as usize];
         let read = |offset: &u32| judged.change(facility, *offset, &mut room);
         let times = own.iter().map(read).map(|it| it.expect("a change").time);
-        let of_changes = around_times(&Vec::from_iter(times));
+        let times = Vec::from_iter(times);
+        let all = Own {
+            count: chains[root].len(),
+            first: times.last().copied(),
+            most: (summary.end - summary.changes) as usize / 2,
+        };
+        let of_changes = around_times(&times);
         // Of entries at one position also the times that do not decide, and others between them.
         let (mut others, mut between) = (Vec::new(), Vec::new());
         for shared in own.iter().filter_map(|it| asked.entries.shared(*it)) {
@@ -425,15 +485,17 @@ pub fn compare(file: &[u8], what: &str, most: Most, seen: &mut Seen) {
 
         let width = facts.width as usize;
         let rooms = BTreeSet::from([width.saturating_sub(1), width, width + 5]);
-        plans.push((facility, offsets, times, rooms, shown));
+        plans.push((facility, offsets, times, rooms, (shown, all)));
     }
     for facility in [summary.facilities, u32::MAX] {
-        let rooms = BTreeSet::from([0, 40]);
-        plans.push((facility, around(&[summary.changes]), ENDS.into(), rooms, 0));
+        let (offsets, rooms) = (around(&[summary.changes]), BTreeSet::from([0, 40]));
+        let none = (0, Own::default());
+        plans.push((facility, offsets, ENDS.into(), rooms, none));
     }
-    for (facility, offsets, times, rooms, shown) in plans {
+    for (facility, offsets, times, rooms, (shown, own)) in plans {
         let offsets = Vec::from_iter(offsets);
         let times = Vec::from_iter(times);
+        asked.own = own;
         asked.facility(facility, &offsets, &times, &Vec::from_iter(rooms));
         asked.seen.shared[2] += shown;
     }

@@ -119,7 +119,8 @@ fn shows(file: &[u8], value: reader::Value, lent: &[u8], meant: &Meant) -> bool 
     }
 }
 
-/// The value at a time is that of the change of highest offset with time <= t.
+/// The value at a time is that of the change of highest offset with time <= t. Visited are this one and the
+/// root's changes after t.
 fn values_at_times(draft: &Draft, bytes: &[u8], judged: &reader::Judged) {
     let mut random = Random::new(draft.end() as u64);
     for (number, facility) in draft.facilities.iter().enumerate().take(8) {
@@ -131,15 +132,15 @@ fn values_at_times(draft: &Draft, bytes: &[u8], judged: &reader::Judged) {
                     change.time.saturating_add(random.pick(&[-1, 0, 1]))
                 }
             };
-            let expected = draft
-                .changes
-                .iter()
-                .rev()
-                .find(|change| change.root == facility.root && change.time <= time);
+            let of_root = |change: &&Change| change.root == facility.root;
+            let own = Vec::from_iter(draft.changes.iter().rev().filter(of_root));
+            let expected = own.iter().find(|change| change.time <= time);
             let mut lent = vec![b'?'; 4_100];
-            let value = judged
-                .value_at(number as u32, time, &mut lent)
-                .expect("a value");
+            let lookup = judged.value_at(number as u32, time, &mut lent);
+            let reader::Lookup { value, visited } = lookup.expect("a value");
+            let later = own.iter().filter(|change| change.time > time).count();
+            let answered = usize::from(expected.is_some());
+            assert_eq!(visited as usize, later + answered);
             match expected {
                 Some(change) => assert!(shows(bytes, value, &lent, &change.value)),
                 None => match facility.kind {

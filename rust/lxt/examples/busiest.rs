@@ -13,7 +13,7 @@ pub fn busiest(bytes: &[u8]) -> Result<String, Refusal> {
         return Ok("no facilities".to_string());
     };
     let name = trace.name(facility)?;
-    let value = trace.value_at(facility, i64::MAX)?;
+    let value = trace.value_at(facility, i64::MAX)?.value;
     let changes = changes[facility as usize];
     Ok(format!(
         "{} changes {changes} times, last to {value}",

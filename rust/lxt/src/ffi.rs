@@ -91,6 +91,7 @@ pub(crate) mod c {
             bits: *mut u8,
             room: usize,
             value: *mut Value,
+            visited: *mut u32,
         ) -> u32;
         pub fn lxt_facts(
             file: *const u8,
@@ -203,16 +204,18 @@ pub(crate) fn change_before(file: &[u8], facility: u32, offset: u32, before: &mu
     }
 }
 
-/// The value at a time, its symbols in the lent bits; 0 or the refusal's number.
+/// The value at a time, its symbols in the lent bits, and how many changes were visited; 0 or the refusal's
+/// number.
 pub(crate) fn value_at(
     file: &[u8],
     facility: u32,
     time: i64,
     bits: &mut [u8],
     value: &mut c::Value,
+    visited: &mut u32,
 ) -> u32 {
     // SAFETY: the pointers and lengths of both slices are their own, the struct has the layout of C's,
-    // and the two `&mut` are not aliased.
+    // and the three `&mut` are not aliased.
     unsafe {
         c::lxt_value_at(
             file.as_ptr(),
@@ -222,6 +225,7 @@ pub(crate) fn value_at(
             bits.as_mut_ptr(),
             bits.len(),
             value as *mut c::Value,
+            visited as *mut u32,
         )
     }
 }

@@ -15,7 +15,7 @@
 //!     }
 //!     for facility in trace.facilities() {
 //!         let name = trace.name(facility)?;
-//!         let value = trace.value_at(facility, 100)?;
+//!         let value = trace.value_at(facility, 100)?.value;
 //!         let changes = changes[facility as usize];
 //!         println!("{} {value} {changes} changes", name.escape_ascii());
 //!     }
@@ -137,6 +137,17 @@ pub struct Changed<V> {
     /// Other bits there are accepted and change no value. A real, a text and a change without data or
     /// without such bits are always clean.
     pub clean: bool,
+}
+
+/// What a value at a time answers, with the value as a [`Value`] or a [`Reading`].
+#[derive(Clone, Copy, Debug, PartialEq, Eq)]
+#[non_exhaustive]
+pub struct Lookup<V> {
+    pub value: V,
+    /// How many changes the lookup went past: those of the facility's root with a later time, and the change
+    /// answered, if any. An alias counts its root's. Before the first change it is all of them. It is at most half
+    /// the bytes between C and T, since each change takes two bytes at least. Judging is not counted.
+    pub visited: u32,
 }
 
 impl Value {
@@ -279,13 +290,30 @@ pub fn change(
     })
 }
 
-/// The value of a facility at a time, which may be any: before the first change it is the initial one.
+/// The value of a facility at a time, which may be any: before the first change it is the initial one. Beside it
+/// stands how many changes were [visited](Lookup::visited).
 ///
 /// Bits and integers need as many lent bytes as they are wide; other bytes stay.
-pub fn value_at(file: &[u8], facility: u32, time: i64, bits: &mut [u8]) -> Result<Value, Refusal> {
+pub fn value_at(
+    file: &[u8],
+    facility: u32,
+    time: i64,
+    bits: &mut [u8],
+) -> Result<Lookup<Value>, Refusal> {
     let mut value = c::Value::default();
-    accepted(ffi::value_at(file, facility, time, bits, &mut value))?;
-    Ok(Value::of(value))
+    let mut visited = 0;
+    accepted(ffi::value_at(
+        file,
+        facility,
+        time,
+        bits,
+        &mut value,
+        &mut visited,
+    ))?;
+    Ok(Lookup {
+        value: Value::of(value),
+        visited,
+    })
 }
 
 /// Starts a walk over the changes of the facilities whose asked byte is not 0; an alias asks for its

@@ -4,7 +4,7 @@ use std::fmt;
 use std::iter::FusedIterator;
 use std::ops::Range;
 
-use crate::{Changed, Facts, Pair, Refusal, Summary, Value, NAME_ROOM, WIDEST};
+use crate::{Changed, Facts, Lookup, Pair, Refusal, Summary, Value, NAME_ROOM, WIDEST};
 
 /// An accepted trace in lent bytes.
 ///
@@ -24,7 +24,7 @@ use crate::{Changed, Facts, Pair, Refusal, Summary, Value, NAME_ROOM, WIDEST};
 ///         let name = trace.name(facility)?;
 ///         let facts = trace.facts(facility)?;
 ///         println!("{} {:?} {}", name.escape_ascii(), facts.kind, facts.width);
-///         println!("  at 100: {}", trace.value_at(facility, 100)?);
+///         println!("  at 100: {}", trace.value_at(facility, 100)?.value);
 ///     }
 ///     Ok(())
 /// }
@@ -171,20 +171,27 @@ impl<'a> Trace<'a> {
         crate::change(self.bytes, facility, offset, bits)
     }
 
-    /// The value of a facility at a time: that of the latest change up to it, else the initial one.
+    /// The value of a facility at a time: that of the latest change up to it, else the initial one. Beside it
+    /// stands how many changes were [visited](Lookup::visited): the later ones, and the one answered, if any.
     ///
     /// ```
     /// # let bytes = std::fs::read("../../traces/gpsim_blink.lxt").expect("a trace");
     /// # let trace = lxt::Trace::open(&bytes).expect("an accepted trace");
     /// let before_all = trace.value_at(0, i64::MIN)?;
     /// let last = trace.value_at(0, i64::MAX)?;
-    /// println!("from {before_all} to {last}");
+    /// println!("from {} to {}", before_all.value, last.value);
+    /// // All changes of the facility, and the newest alone.
+    /// assert_eq!(before_all.visited as usize, trace.walk_of(&[0])?.count());
+    /// assert_eq!(last.visited, 1);
     /// # Ok::<(), lxt::Refusal>(())
     /// ```
-    pub fn value_at(&self, facility: u32, time: i64) -> Result<Reading<'a>, Refusal> {
+    pub fn value_at(&self, facility: u32, time: i64) -> Result<Lookup<Reading<'a>>, Refusal> {
         let mut bits = [0; WIDEST];
-        let value = self.value_at_into(facility, time, &mut bits)?;
-        Ok(self.reading(value, &bits))
+        let lookup = self.value_at_into(facility, time, &mut bits)?;
+        Ok(Lookup {
+            value: self.reading(lookup.value, &bits),
+            visited: lookup.visited,
+        })
     }
 
     /// The same with symbols written at the start of the lent bits, as by
@@ -194,7 +201,7 @@ impl<'a> Trace<'a> {
         facility: u32,
         time: i64,
         bits: &mut [u8],
-    ) -> Result<Value, Refusal> {
+    ) -> Result<Lookup<Value>, Refusal> {
         crate::value_at(self.bytes, facility, time, bits)
     }
 

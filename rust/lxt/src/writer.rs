@@ -30,8 +30,8 @@ use crate::{
 ///     let file = writer.write()?;
 ///
 ///     let trace = Trace::open(&file)?;
-///     assert_eq!(trace.value_at(clock, 4)?.to_string(), "1");
-///     assert_eq!(trace.value_at(state, 4)?.to_string(), r#""idle""#);
+///     assert_eq!(trace.value_at(clock, 4)?.value.to_string(), "1");
+///     assert_eq!(trace.value_at(state, 4)?.value.to_string(), r#""idle""#);
 ///     Ok(())
 /// }
 /// ```

@@ -32,8 +32,8 @@ fn expected(file: &[u8]) -> Result<String, Refusal> {
         return Ok("no facilities".to_string());
     };
     let mut bits = vec![0; 4_096];
-    let value = judged.value_at(facility as u32, i64::MAX, &mut bits);
-    let value = match value.expect("a value") {
+    let lookup = judged.value_at(facility as u32, i64::MAX, &mut bits);
+    let value = match lookup.expect("a value").value {
         Value::Bits { width } => bits[..width as usize].escape_ascii().to_string(),
         Value::Real { bits } => f64::from_bits(bits).to_string(),
         Value::Text { start, length } => {

@@ -12,6 +12,7 @@ use lxt_compare::traces;
 use lxt_compare::write::examples;
 use lxt_reference::{Judged, Value};
 
+mod mixed;
 #[allow(dead_code)]
 mod padded;
 
@@ -101,7 +102,7 @@ int main(int count, char **words) {
     if (lxt_stray(file, length, &stray) == LXT_ACCEPTED) printf("stray %lu\n", (unsigned long)stray);
     for (f = 0; f <= n && f < 40; f++) {
         static const int64_t times[] = {50, -1, 0, INT64_MIN, 4294967296, INT64_MAX};
-        uint32_t root, size, before, clean, offset, count = 0;
+        uint32_t root, size, before, clean, visited, offset, count = 0;
         int64_t time;
         lxt_facility facts;
         lxt_value value;
@@ -126,7 +127,8 @@ int main(int count, char **words) {
             offset = before;
         }
         for (count = 0; count < sizeof times / sizeof times[0]; count++) {
-            lxt_value_at(file, length, f, times[count], bits, sizeof bits, &value);
+            lxt_value_at(file, length, f, times[count], bits, sizeof bits, &value, &visited);
+            printf("%lu ", (unsigned long)visited);
             show(&value);
         }
     }
@@ -178,8 +180,10 @@ fn expected(file: &[u8]) -> String {
             show(&mut out, read.value, &bits);
         }
         for time in [50, -1, 0, i64::MIN, 0x1_0000_0000, i64::MAX] {
-            let value = judged.value_at(facility, time, &mut bits);
-            show(&mut out, value.expect("a value"), &bits);
+            let lookup = judged.value_at(facility, time, &mut bits);
+            let lookup = lookup.expect("a value");
+            out += &format!("{} ", lookup.visited);
+            show(&mut out, lookup.value, &bits);
         }
     }
     for (root, offset) in judged.full_list(&vec![1; n as usize]).expect("a list") {
@@ -253,14 +257,18 @@ fn a_c_program_answers_as_the_independent_reader() {
 }
 
 /// Files and the lines of the program, worked out by hand.
-fn by_hand() -> [(&'static str, Vec<u8>, String); 4] {
-    // The values at 50, -1, 0, the least number, 2^32 and the greatest number, one symbol each.
-    let values = |symbols: [&str; 6]| {
-        symbols
-            .map(|it| format!("bits {} {it} 0\n", it.len()))
+fn by_hand() -> [(&'static str, Vec<u8>, String); 5] {
+    // The values at 50, -1, 0, the least number, 2^32 and the greatest number: the number of changes visited, and
+    // the symbols.
+    let values = |lookups: [(u32, &str); 6]| {
+        lookups
+            .map(|(visited, it)| format!("{visited} bits {} {it} 0\n", it.len()))
             .concat()
     };
-    let newest = |symbols: &'static str| values([symbols, "XXX", "XXX", "XXX", symbols, symbols]);
+    let newest = |symbols: &'static str| {
+        let (before, last) = ((2, "XXX"), (1, symbols));
+        values([last, before, before, before, last, last])
+    };
     // Rubbish in the padding of every packing; the times are 3 and 7.
     let padded = [
         "3 4 139 X 0 -9\nstray 0\n",
@@ -273,12 +281,12 @@ fn by_hand() -> [(&'static str, Vec<u8>, String); 4] {
         "3 refused\n2 20\n1 17\n0 14\n2 10\n1 7\n0 4\nwalked 0\n",
     ];
     // 64-bit times: -5 and 5, and the least number and -1.
-    let small = |times: [&str; 2], symbols| {
+    let small = |times: [&str; 2], lookups| {
         let [newer, older] = times;
         let changes = format!("4 {newer} 1 bits 1 0 0\n0 {older} 1 bits 1 1 0\n");
         let head = "1 4 84 X 1 -9\nstray 0\n1 bits 0 0 0 a\n";
         let tail = "1 refused\n0 6\n0 4\nwalked 0\n";
-        format!("{head}{changes}{}{tail}", values(symbols))
+        format!("{head}{changes}{}{tail}", values(lookups))
     };
     let (least, most) = (i64::MIN, i64::MAX);
     // The change at 6 is the only one, so the two bytes of that at 4 are stray.
@@ -286,26 +294,59 @@ fn by_hand() -> [(&'static str, Vec<u8>, String); 4] {
     one_change[7] = 4;
     let stray = [
         "1 4 68 X 1 -9\nstray 2\n1 bits 0 0 0 a\n0 5 1 bits 1 0 0\n",
-        &values(["0", "X", "X", "X", "0", "0"]),
+        &values([(1, "0"), (1, "X"), (1, "X"), (1, "X"), (1, "0"), (1, "0")]),
         "1 refused\n0 6\nwalked 0\n",
     ];
     [
+        ("mixed", mixed::file(), mixed_lines()),
         ("padded", padded::file(), padded.concat()),
         ("stray", one_change.to_vec(), stray.concat()),
         (
             "wide",
             small_trace_09(-5, 5, &[4, 2], &[-5, 10]),
-            small(["5", "-5"], ["0", "1", "1", "X", "0", "0"]),
+            small(
+                ["5", "-5"],
+                [(1, "0"), (2, "1"), (2, "1"), (2, "X"), (1, "0"), (1, "0")],
+            ),
         ),
         (
             "widest",
             small_trace_09(least, most, &[4, 2], &[least, most]),
             small(
                 ["-1", "-9223372036854775808"],
-                ["0", "0", "0", "1", "0", "0"],
+                [(1, "0"), (1, "0"), (1, "0"), (2, "1"), (1, "0"), (1, "0")],
             ),
         ),
     ]
+}
+
+/// Those of the trace with every kind, an alias and a facility without changes.
+fn mixed_lines() -> String {
+    // At 50, then three times before all changes, then twice after them.
+    let values = |last: &str, before: &str| {
+        let (last, before) = (format!("{last}\n"), format!("{before}\n"));
+        last.clone() + &before.repeat(3) + &last.repeat(2)
+    };
+    let bits = [
+        "4 30 1 bits 3 ZX1 0\n0 10 1 bits 3 011 0\n",
+        &values("1 bits 3 ZX1 0", "2 bits 3 ZZZ 0"),
+    ];
+    let bits = bits.concat();
+    let real = "real 4609434218613702656 0";
+    let unchanged = format!("0 bits 32 {} 0", "Z".repeat(32));
+    let lines = [
+        "5 4 198 Z 1 -9\nstray 0\n",
+        &format!("3 bits 2 0 0 a\n{bits}"),
+        &format!("0 real 0 0 1 r\n0 20 1 {real}\n"),
+        &values(&format!("1 {real}"), "1 not driven 0 0"),
+        "0 text 0 0 2 s\n0 20 1 text 9 2\n",
+        &values("1 text 9 2", "1 not driven 0 0"),
+        &format!("3 bits 2 0 0 b\n{bits}"),
+        "32 integer 31 0 4 i\n",
+        &values(&unchanged, &unchanged),
+        "5 refused\n0 22\n1 12\n2 7\n0 4\nwalked 0\n",
+    ];
+    lines.concat()
 }
 
 /// The structs are the numbers that the functions write, in their order, and the constants the limits.
@@ -357,7 +398,8 @@ uint32_t (*const stray)(const uint8_t *, size_t, uint32_t *) = lxt_stray;
 /* Times are signed numbers of 64 bits, whether answered or asked for. */
 uint32_t (*const change)(const uint8_t *, size_t, uint32_t, uint32_t, uint8_t *, size_t, int64_t *, lxt_value *,
                          uint32_t *) = lxt_change;
-uint32_t (*const value_at)(const uint8_t *, size_t, uint32_t, int64_t, uint8_t *, size_t, lxt_value *) = lxt_value_at;
+uint32_t (*const value_at)(const uint8_t *, size_t, uint32_t, int64_t, uint8_t *, size_t, lxt_value *,
+                           uint32_t *) = lxt_value_at;
 uint32_t (*const write)(const lxt_new_facility *, size_t, const uint8_t *, size_t, const lxt_new_change *, size_t,
                         const uint8_t *, size_t, uint8_t, int8_t, uint8_t *, size_t, uint32_t *) = lxt_write;
 
@@ -401,7 +443,7 @@ static void all(const uint8_t *file, size_t length) {
     int8_t timescale;
     int32_t msb, lsb;
     int64_t time;
-    uint32_t one, clean;
+    uint32_t one, clean, visited;
     lxt_pair pair = {0, 0};
     uint8_t asked = 1;
     printf("%d", (int)lxt_judge(file, length, &summary, &timescale));
@@ -411,7 +453,7 @@ static void all(const uint8_t *file, size_t length) {
     printf(" %d", (int)lxt_name(file, length, 0, NULL, 0, &one));
     printf(" %d", (int)lxt_change_before(file, length, 0, 6, &one));
     printf(" %d", (int)lxt_change(file, length, 0, 6, NULL, 0, &time, &value, &clean));
-    printf(" %d", (int)lxt_value_at(file, length, 0, INT64_MAX, NULL, 0, &value));
+    printf(" %d", (int)lxt_value_at(file, length, 0, INT64_MAX, NULL, 0, &value, &visited));
     printf(" %d", (int)lxt_start_walk(file, length, NULL, 0, NULL, 0));
     printf(" %d", (int)lxt_start_walk(file, length, NULL, 0, &pair, 1));
     printf(" %d", (int)lxt_start_walk(file, length, &asked, 1, NULL, 0));

@@ -33,7 +33,8 @@ fn a_file_with_rubbish_in_every_packing() {
             );
             let value = Reading::Bits(symbols.into());
             assert_eq!(read.value, value, "{kept:03b} {offset}");
-            assert_eq!(trace.value_at(root, time), Ok(value), "{kept:03b} {offset}");
+            let lookup = trace.value_at(root, time).map(|it| it.value);
+            assert_eq!(lookup, Ok(value), "{kept:03b} {offset}");
         }
     }
 }

@@ -35,6 +35,7 @@ fn traces_of_the_folder() {
     }
     assert!(seen.count("value_at", "bits", 0) >= 1_000);
     assert!(seen.count("change_before", "number", 0) >= 1_000);
+    assert!(seen.visited().iter().all(|count| *count >= 1_000));
 }
 
 #[test]
@@ -111,6 +112,8 @@ fn generated_files() {
     assert!(seen.shared().iter().all(|count| *count >= 500));
     // Times outside 32 bits, of changes and of questions.
     assert!(seen.outside().iter().all(|count| *count >= 500));
+    // Values by the changes visited: all of a root's and none answered, none, one, and several.
+    assert!(seen.visited().iter().all(|count| *count >= 500));
 }
 
 #[test]
@@ -129,6 +132,7 @@ fn hostile_files() {
     assert!(seen.shared().iter().all(|count| *count > 0));
     let [below, _, asked @ ..] = seen.outside();
     assert!(below > 0 && asked.iter().all(|count| *count > 0));
+    assert!(seen.visited().iter().all(|count| *count >= 50));
 }
 
 /// Lines, trees and rings of aliases: of most files every facility is asked about.

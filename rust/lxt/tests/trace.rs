@@ -99,11 +99,13 @@ fn every_question_of_a_trace() {
                 times.extend([read.time, read.time.saturating_sub(1)]);
             }
             for time in times {
-                let value = trace.value_at(facility, time).expect("a value");
+                let lookup = trace.value_at(facility, time).expect("a value");
                 let expected = judged.value_at(facility, time, &mut bits);
-                let expected = reading(file, expected.expect("a value"), &bits);
-                assert!(same(&value, &expected), "{what}");
-                *seen.entry(sort_of(&value)).or_default() += 1;
+                let expected = expected.expect("a value");
+                assert_eq!(lookup.visited, expected.visited, "{what}");
+                let expected = reading(file, expected.value, &bits);
+                assert!(same(&lookup.value, &expected), "{what}");
+                *seen.entry(sort_of(&lookup.value)).or_default() += 1;
             }
         }
         let none = summary.facilities;

@@ -22,7 +22,8 @@ fn reads(file: &[u8], expected: &[u8], what: &str) {
         assert_eq!(read, Ok(value), "{what}");
         assert!(bits == held, "{what}, a change, room for {room}");
         let mut bits = vec![b'?'; room];
-        assert_eq!(lxt::value_at(file, 0, 7, &mut bits), Ok(value), "{what}");
+        let read = lxt::value_at(file, 0, 7, &mut bits).map(|it| it.value);
+        assert_eq!(read, Ok(value), "{what}");
         assert!(bits == held, "{what}, a value at a time, room for {room}");
         let mut bits = vec![b'?'; room];
         let read = lxt_reference::change(file, 0, 4, &mut bits);

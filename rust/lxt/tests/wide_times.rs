@@ -16,6 +16,10 @@ fn bits(symbols: &str) -> Reading<'static> {
     Reading::Bits(symbols.into())
 }
 
+fn value_at<'a>(trace: &Trace<'a>, facility: u32, time: i64) -> Result<Reading<'a>, Refusal> {
+    trace.value_at(facility, time).map(|lookup| lookup.value)
+}
+
 #[test]
 fn the_bytes_of_1_a() {
     let file = &wide::examples()[0].file;
@@ -51,7 +55,7 @@ fn examples_1_a_to_1_l() {
             assert_eq!(read.value, bits(symbol), "{what} {offset}");
         }
         for (time, symbol) in answer.values {
-            let value = trace.value_at(0, *time);
+            let value = value_at(&trace, 0, *time);
             assert_eq!(value, Ok(bits(&symbol.to_string())), "{what} at {time}");
         }
 
@@ -229,7 +233,7 @@ fn any_time_of_32_bit_times() {
         (0x1_0000_0001, "0"),
         (MOST, "0"),
     ] {
-        assert_eq!(trace.value_at(0, time), Ok(bits(symbol)), "{time}");
+        assert_eq!(value_at(&trace, 0, time), Ok(bits(symbol)), "{time}");
     }
     // Of no change at all the initial symbol, at any time.
     let mut none = small_trace(0, &[4, 2], &[0, 5]);
@@ -275,7 +279,7 @@ fn traces_of_independent_writers() {
         (20_000_000_000, "00010100"),
         (MOST, "00010100"),
     ] {
-        assert_eq!(trace.value_at(0, time), Ok(bits(value)), "{time}");
+        assert_eq!(value_at(&trace, 0, time), Ok(bits(value)), "{time}");
     }
 
     let file = include_bytes!("../../../traces/lxtgen_t64_2.lxt");
@@ -287,13 +291,13 @@ fn traces_of_independent_writers() {
         (Ok(4_294_967_010), Ok(4_294_967_000))
     );
     for (time, value) in [
-        (4_294_966_999, trace.value_at(1, LEAST)),
+        (4_294_966_999, value_at(&trace, 1, LEAST)),
         (4_294_967_000, Ok(bits("101"))),
         (4_294_967_009, Ok(bits("101"))),
         (4_294_967_010, Ok(bits("000"))),
         (4_294_967_045, Ok(bits("110"))),
         (MOST, Ok(bits("110"))),
     ] {
-        assert_eq!(trace.value_at(1, time), value, "{time}");
+        assert_eq!(value_at(&trace, 1, time), value, "{time}");
     }
 }

@@ -205,7 +205,7 @@ fn what_was_refused_is_not_added() {
     let trace = Trace::open(&file).expect("a trace");
     assert_eq!(trace.facilities(), 0..1);
     assert_eq!(trace.walk_all().expect("a walk").count(), 2);
-    let value = trace.value_at(real, 4).expect("a value");
+    let value = trace.value_at(real, 4).expect("a value").value;
     assert!(matches!(value, Reading::Real(number) if number.is_nan()));
 }
 

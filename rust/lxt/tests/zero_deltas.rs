@@ -44,7 +44,7 @@ fn examples_2_a_to_2_i() {
             assert_eq!(read.value, bits(symbol), "{what} {offset}");
         }
         // Every time on either side of each entry, and any far behind.
-        let shown = |time| trace.value_at(0, time).map(|value| value.to_string());
+        let shown = |time| trace.value_at(0, time).map(|it| it.value.to_string());
         let values = (0..7).map(|time| shown(time).expect("a value"));
         assert_eq!(values.collect::<String>(), answer.values, "{what}");
         assert_eq!(shown(i64::MAX), shown(6), "{what}");
@@ -131,9 +131,10 @@ fn a_trace_of_an_independent_writer() {
     let trace = Trace::open(file).expect("an accepted trace");
     let time = |offset| trace.change(0, offset).map(|read| read.time);
     assert_eq!((time(7), time(4)), (Ok(9), Ok(0)));
+    let value_at = |facility, time| trace.value_at(facility, time).map(|it| it.value);
     for (time, value) in [(0, "0001"), (5, "0001"), (8, "0001"), (9, "0010")] {
-        assert_eq!(trace.value_at(0, time), Ok(bits(value)), "{time}");
+        assert_eq!(value_at(0, time), Ok(bits(value)), "{time}");
     }
     let unchanged = bits(&"X".repeat(40));
-    assert_eq!(trace.value_at(1, 9), Ok(unchanged));
+    assert_eq!(value_at(1, 9), Ok(unchanged));
 }

@@ -1,5 +1,5 @@
-//! A plain reader and writer of LXT traces, written from the rules of paper 01 and Asks 1, 2, 5 and 6 of
-//! paper 02 alone, and from the definition of stray bytes that stands in `stray`.
+//! A plain reader and writer of LXT traces, written from the rules of paper 01 and Asks 1, 2, 5, 6 and 7
+//! of paper 02 alone, and from the definition of stray bytes that stands in `stray`.
 //!
 //! They exist to be compared, call by call, with others. So the reader follows the paper's order of
 //! checks, uses memory freely and judges the whole file again in every call. The writer is also what
@@ -84,6 +84,15 @@ pub struct Changed {
     pub value: Value,
     /// Whether every unused bit of its last data byte is 0; so too where there is none (Ask 6).
     pub clean: bool,
+}
+
+/// What asking for the value at a time answers.
+#[derive(Clone, Copy, Debug, PartialEq, Eq)]
+pub struct Lookup {
+    pub value: Value,
+    /// How many changes of the root have a time after the one asked for, plus the change answered, if any
+    /// (Ask 7).
+    pub visited: u32,
 }
 
 /// The value of a facility. The symbols of `Bits` stand in the lent bits.

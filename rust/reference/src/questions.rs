@@ -3,7 +3,7 @@
 
 use crate::chains::{bits_a_symbol, read_chains, spans_of, Chains, Change};
 use crate::tables::{read_tables, Trace};
-use crate::{Changed, Facts, Kind, Summary, Value, LONGEST_NAME, SYMBOLS};
+use crate::{Changed, Facts, Kind, Lookup, Summary, Value, LONGEST_NAME, SYMBOLS};
 
 /// A file that passed the checks 1 to 17. Its methods answer as the calls of the same name do,
 /// without judging the file again.
@@ -96,23 +96,34 @@ impl<'a> Judged<'a> {
         })
     }
 
-    pub fn value_at(&self, facility: u32, time: i64, bits: &mut [u8]) -> Result<Value, u8> {
+    pub fn value_at(&self, facility: u32, time: i64, bits: &mut [u8]) -> Result<Lookup, u8> {
         let facility = self.facility(facility)?;
         self.bits_room(facility, bits)?;
+        let chain = &self.chains[self.trace.roots[facility]];
+        let time_of = |change: &Change| self.trace.time(change.offset);
         // The chain's first change is that of highest offset.
-        let change = self.chains[self.trace.roots[facility]]
-            .iter()
-            .find(|change| self.trace.time(change.offset) <= time);
-        if let Some(change) = change {
-            return Ok(self.write_value(facility, change, bits));
-        }
+        let answered = chain.iter().find(|change| time_of(change) <= time);
+        // All of that root's changes with time after t, plus the change answered, if any.
+        let later = chain.iter().filter(|change| time_of(change) > time);
+        let visited = later.count() + usize::from(answered.is_some());
+        Ok(Lookup {
+            value: match answered {
+                Some(change) => self.write_value(facility, change, bits),
+                None => self.write_initial(facility, bits),
+            },
+            visited: visited as u32,
+        })
+    }
+
+    /// The value where no change is answered; symbols are written into the lent bits, which have the room.
+    fn write_initial(&self, facility: usize, bits: &mut [u8]) -> Value {
         let facts = self.trace.facts[facility];
         match facts.kind {
             Kind::Bits | Kind::Integer => {
                 bits[..facts.width as usize].fill(SYMBOLS[usize::from(self.trace.initial)]);
-                Ok(Value::Bits { width: facts.width })
+                Value::Bits { width: facts.width }
             }
-            Kind::Real | Kind::Text => Ok(Value::NotDriven),
+            Kind::Real | Kind::Text => Value::NotDriven,
         }
     }
 
@@ -232,8 +243,9 @@ pub fn change(file: &[u8], facility: u32, offset: u32, bits: &mut [u8]) -> Resul
     Judged::new(file)?.change(facility, offset, bits)
 }
 
-/// The value at a time: that of the change of highest offset with time <= `time`.
-pub fn value_at(file: &[u8], facility: u32, time: i64, bits: &mut [u8]) -> Result<Value, u8> {
+/// The value at a time, that of the change of highest offset with time <= `time`, and the number of
+/// changes visited.
+pub fn value_at(file: &[u8], facility: u32, time: i64, bits: &mut [u8]) -> Result<Lookup, u8> {
     Judged::new(file)?.value_at(facility, time, bits)
 }
 

@@ -1,6 +1,7 @@
 //! The small trace of paper 01, P1 to P12, and the sentences of the readings, each in a small file.
 
 mod stray;
+mod visited;
 mod wide_times;
 mod write;
 
@@ -275,13 +276,21 @@ fn clean_at_10(value: Value) -> Result<Changed, u8> {
     })
 }
 
+/// What a value at a time answers, with the number of changes visited.
+fn found(value: Value, visited: u32) -> Result<Lookup, u8> {
+    Ok(Lookup { value, visited })
+}
+
 fn symbol_at(file: &[u8], time: i64) -> u8 {
+    symbol_and_visited(file, time).0
+}
+
+/// The symbol of facility 0 at a time, and the number of changes visited.
+fn symbol_and_visited(file: &[u8], time: i64) -> (u8, u32) {
     let mut bits = [b'?'];
-    assert_eq!(
-        value_at(file, 0, time, &mut bits),
-        Ok(Value::Bits { width: 1 })
-    );
-    bits[0]
+    let lookup = value_at(file, 0, time, &mut bits).expect("a value");
+    assert_eq!(lookup.value, Value::Bits { width: 1 });
+    (bits[0], lookup.visited)
 }
 
 /// A whole walk by one carry-on call with room for `size` pairs.
@@ -766,7 +775,7 @@ fn timescale_and_initial_value() {
         assert_eq!(made.judge().map(|summary| summary.initial), Ok(code));
         let mut bits = [b'?'; 3];
         let value = value_at(&made.file(), 0, i64::MAX, &mut bits);
-        assert_eq!(value, Ok(Value::Bits { width: 2 }));
+        assert_eq!(value, found(Value::Bits { width: 2 }, 0));
         let symbol = SYMBOLS[usize::from(code)];
         assert_eq!(bits, [symbol, symbol, b'?']);
     }
@@ -1275,16 +1284,17 @@ fn small_table(tag: u8, lowest: i64, positions: [u32; 3], times: [i64; 3]) {
     }
     let around = [-1, 0, 1, 2, 3].map(|more| lowest.saturating_add(more));
     for at in around.into_iter().chain([i64::MIN, i64::MAX]) {
-        let symbol = match [10, 8, 6, 4].iter().find(|offset| time(**offset) <= at) {
-            Some(10) => b'X',
-            Some(8) => b'Z',
-            Some(6) => b'1',
-            Some(_) => b'0',
-            None => b'-',
+        let (symbol, visited) = match [10, 8, 6, 4].iter().find(|offset| time(**offset) <= at) {
+            Some(10) => (b'X', 1),
+            Some(8) => (b'Z', 2),
+            Some(6) => (b'1', 3),
+            Some(_) => (b'0', 4),
+            None => (b'-', 4),
         };
         let mut bits = [b'?'];
-        judged.value_at(0, at, &mut bits).expect("a value");
-        assert_eq!(bits, [symbol], "{positions:?} {times:?} {at}");
+        let lookup = judged.value_at(0, at, &mut bits).expect("a value");
+        let shown = (bits, lookup.visited);
+        assert_eq!(shown, ([symbol], visited), "{positions:?} {times:?} {at}");
     }
 }
 
@@ -1385,9 +1395,12 @@ fn the_byte_order_of_reals() {
     made.real_test = Some(test);
     assert_eq!(
         value_at(&made.file(), 0, 10, &mut []),
-        Ok(Value::Real {
-            bits: u64::from_le_bytes(crate::tables::REAL_TEST)
-        })
+        found(
+            Value::Real {
+                bits: u64::from_le_bytes(crate::tables::REAL_TEST)
+            },
+            1
+        )
     );
     // Wrong byte, byte twice.
     assert_eq!(
@@ -1406,7 +1419,7 @@ fn a_real_facility_needs_the_test_with_or_without_changes() {
     assert_eq!(refused(made.judge()), 14);
     made.real_test = Some(crate::tables::REAL_TEST);
     let file = made.file();
-    assert_eq!(value_at(&file, 0, 0, &mut []), Ok(Value::NotDriven));
+    assert_eq!(value_at(&file, 0, 0, &mut []), found(Value::NotDriven, 0));
     made.nearer_end = vec![(0x08, 0)];
     assert_eq!(refused(made.judge()), 14);
     // At the end, and one byte past it.
@@ -1510,7 +1523,7 @@ fn flash_commands_and_integers() {
     let mut bits = [b'?'; 33];
     assert_eq!(
         value_at(&file, 0, 9, &mut bits),
-        Ok(Value::Bits { width: 32 })
+        found(Value::Bits { width: 32 }, 1)
     );
     assert_eq!(&bits[..32], &[b'-'; 32]);
     assert_eq!(bits[32], b'?');
@@ -1691,7 +1704,8 @@ fn examples_6_a_to_6_k() {
 
         // The value at a time, the walk and the program show the symbols and no rubbish.
         bits.fill(b'?');
-        assert_eq!(value_at(&file, 0, 7, &mut bits), Ok(value), "6-{letter}");
+        let lookup = value_at(&file, 0, 7, &mut bits);
+        assert_eq!(lookup, found(value, 1), "6-{letter}");
         assert_eq!(bits, format!("{symbols}?").into_bytes(), "6-{letter}");
         assert_eq!(walk(&file, &[1], 2), (vec![(0, 4)], true), "6-{letter}");
         let printed = format!("facility 0 a bits {width}\nchange 0 4 7 {symbols}\ndone 1\n");
@@ -1874,7 +1888,7 @@ fn texts_are_parts_of_the_file() {
             length: 0
         })
     );
-    assert_eq!(value_at(&file, 0, 9, &mut []), Ok(Value::NotDriven));
+    assert_eq!(value_at(&file, 0, 9, &mut []), found(Value::NotDriven, 2));
     assert_eq!(
         dump(&file),
         b"facility 0 t text 0\nchange 0 7 10 68ff\nchange 0 4 10 \ndone 2\n"

@@ -43,7 +43,14 @@ fn all_calls(file: &[u8]) -> u64 {
             for room in [width.saturating_sub(1), width] {
                 let read = lxt::change(&file, facility, *offset, &mut exact(0, room));
                 let time = read.map_or(i64::MIN, |read| read.time);
-                let _ = lxt::value_at(&file, facility, time, &mut exact(0, room));
+                let lookup = lxt::value_at(&file, facility, time, &mut exact(0, room));
+                let expected = judged.as_ref().map_err(|number| *number);
+                let expected =
+                    expected.and_then(|it| it.value_at(facility, time, &mut exact(0, room)));
+                assert_eq!(
+                    lookup.map(|it| it.visited).map_err(|it| it.number()),
+                    expected.map(|it| it.visited)
+                );
                 calls += 2;
             }
             calls += 1;

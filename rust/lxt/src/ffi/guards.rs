@@ -126,6 +126,7 @@ struct Lent {
     one: Guarded<u32>,
     time: Guarded<i64>,
     clean: Guarded<u32>,
+    visited: Guarded<u32>,
     msb: Guarded<i32>,
     lsb: Guarded<i32>,
     scale: Guarded<i8>,
@@ -146,6 +147,7 @@ impl Lent {
             one: Guarded::new(1),
             time: Guarded::new(1),
             clean: Guarded::new(1),
+            visited: Guarded::new(1),
             msb: Guarded::new(1),
             lsb: Guarded::new(1),
             scale: Guarded::new(1),
@@ -277,11 +279,16 @@ fn all_calls(file: &[u8], lent: &mut Lent, place: Place) -> u64 {
                 // At the change's time, or at the mark, which lies below most.
                 let time = *time;
                 let answer = &mut lent.value.lend(&[VALUE], place)[0];
+                let visited = &mut lent.visited.lend(&[MARK], place)[0];
                 let bits = lent.bytes.lend(&marked, place);
-                let number = super::value_at(file, facility, time, bits, answer);
+                let number = super::value_at(file, facility, time, bits, answer, visited);
                 let mut room = marked;
                 let expected = judged.and_then(|it| it.value_at(facility, time, &mut room));
-                assert_eq!((number, *answer), after(expected.map(numbers), VALUE));
+                let expected = expected.map(|it| (numbers(it.value), it.visited));
+                assert_eq!(
+                    (number, (*answer, *visited)),
+                    after(expected, (VALUE, MARK))
+                );
                 assert_eq!(bits, room);
                 calls += 3;
             }

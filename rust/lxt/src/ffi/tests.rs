@@ -123,8 +123,8 @@ fn all_answers(file: &[u8], bits: &mut [u8], pairs: &mut [Pair], output: &mut [u
         let number = super::change(file, facility, 6, bits, &mut time, &mut three, &mut clean);
         answers += &format!("{number} {time} {three:?} {clean} {bits:?}, ");
         for time in [i64::MIN, 100, i64::MAX] {
-            let number = super::value_at(file, facility, time, bits, &mut three);
-            answers += &format!("{number} {three:?} {bits:?}, ");
+            let number = super::value_at(file, facility, time, bits, &mut three, &mut one);
+            answers += &format!("{number} {three:?} {one} {bits:?}, ");
         }
     }
     let number = super::start_walk(file, &asked, pairs);
@@ -398,12 +398,19 @@ fn structs_are_written_whole_and_nothing_around_them() {
         (clean.unframed(), bits.unframed()),
         (read.clean.into(), room)
     );
-    let (mut three, mut bits) = (framed(VALUE), framed([9; 4_096]));
-    let number = super::value_at(file, 0, i64::MAX, &mut bits.lent, &mut three.lent);
-    let mut room = [9; 4_096];
-    let value = judged.value_at(0, i64::MAX, &mut room).expect("a value");
-    assert_eq!(number, 0);
-    assert_eq!((three.unframed(), bits.unframed()), (numbers(value), room));
+    for time in [i64::MIN, i64::MAX] {
+        let (mut three, mut bits) = (framed(VALUE), framed([9; 4_096]));
+        let mut visited = framed(79);
+        let (lent, answer) = (&mut bits.lent, (&mut three.lent, &mut visited.lent));
+        let number = super::value_at(file, 0, time, lent, answer.0, answer.1);
+        let mut room = [9; 4_096];
+        let lookup = judged.value_at(0, time, &mut room).expect("a value");
+        assert_eq!((number, three.unframed()), (0, numbers(lookup.value)));
+        assert_eq!(
+            (visited.unframed(), bits.unframed()),
+            (lookup.visited, room)
+        );
+    }
 
     let mut pairs = framed([PAIR; 1]);
     assert_eq!(super::start_walk(file, &[1], &mut pairs.lent), 0);
@@ -587,6 +594,8 @@ fn one_number_is_written_or_stays() {
 
 #[test]
 fn a_value_is_written_or_stays() {
+    const MARKS: (c::Value, u32) = (VALUE, 0xDDDD_DDDD);
+    let mut seen = BTreeMap::new();
     questions(|file, judged, facility, offset, room| {
         let judged = judged.as_ref().map_err(|number| *number);
         // The time of a change, or one that is any number.
@@ -594,14 +603,27 @@ fn a_value_is_written_or_stays() {
         let any = i64::from(offset);
         for time in [read.map_or(any, |it| it.time), -any, i64::MIN, i64::MAX] {
             let mut bits = vec![0xA5; room];
-            let mut answer = VALUE;
-            let number = super::value_at(file, facility, time, &mut bits, &mut answer);
+            let (mut answer, mut visited) = MARKS;
+            let lent = (&mut answer, &mut visited);
+            let number = super::value_at(file, facility, time, &mut bits, lent.0, lent.1);
             let mut expected_bits = vec![0xA5; room];
             let expected = judged.and_then(|it| it.value_at(facility, time, &mut expected_bits));
-            assert_eq!((number, answer), after(expected.map(numbers), VALUE));
+            let expected = expected.map(|it| (numbers(it.value), it.visited));
+            assert_eq!((number, (answer, visited)), after(expected, MARKS));
             assert_eq!(bits, expected_bits);
+            let visited = if number == 0 { visited.min(2) } else { visited };
+            *seen.entry((number, visited)).or_insert(0) += 1;
         }
     });
+    // No change, one and several, and the mark after each refusal that the call can give.
+    println!("{seen:?}");
+    let refusals = (1..=18).chain([21]).map(|number| (number, MARKS.1));
+    for answer in refusals.chain([(0, 0), (0, 1), (0, 2)]) {
+        assert!(
+            seen.get(&answer).is_some_and(|count| *count >= 50),
+            "{answer:?}"
+        );
+    }
 }
 
 #[test]

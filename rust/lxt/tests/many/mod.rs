@@ -18,7 +18,7 @@ pub fn at_one_position(start: &str, expected: [[i64; 3]; 4], asked: &[i64]) {
         for time in asked {
             let newest = times.iter().rposition(|it| it <= time);
             let value = newest.map_or("X", |place| ["0", "1", "Z"][place]);
-            let shown = trace.value_at(0, *time).expect("a value");
+            let shown = trace.value_at(0, *time).expect("a value").value;
             assert_eq!(shown, Reading::Bits(value.into()), "{} {time}", case.origin);
         }
     }

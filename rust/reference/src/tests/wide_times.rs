@@ -37,12 +37,13 @@ fn assert_times(file: &[u8], newer: i64, older: i64, what: &str) {
     }
     let near = [newer, older].map(|it| [it.saturating_sub(1), it, it.saturating_add(1)]);
     for time in near.concat().into_iter().chain([LEAST, -1, 0, MOST]) {
-        let symbol = match (newer <= time, older <= time) {
-            (true, _) => b'0',
-            (false, true) => b'1',
-            (false, false) => b'X',
+        let expected = match (newer <= time, older <= time) {
+            (true, _) => (b'0', 1),
+            (false, true) => (b'1', 2),
+            (false, false) => (b'X', 2),
         };
-        assert_eq!(symbol_at(file, time), symbol, "{what}: at {time}");
+        let shown = symbol_and_visited(file, time);
+        assert_eq!(shown, expected, "{what}: at {time}");
     }
     let list = vec![(0, 6), (0, 4)];
     assert_eq!(walk(file, &[1], 9), (list, true), "{what}");
@@ -512,8 +513,10 @@ fn not_driven_before_the_first_time() {
         (0, text),
         (MOST, text),
     ] {
-        assert_eq!(value_at(&file, 0, time, &mut []), Ok(value), "{time}");
-        assert_eq!(value_at(&file, 1, time, &mut []), Ok(Value::NotDriven));
+        // The one change of facility 0 is visited at any time; facility 1 has none.
+        assert_eq!(value_at(&file, 0, time, &mut []), found(value, 1), "{time}");
+        let none = value_at(&file, 1, time, &mut []);
+        assert_eq!(none, found(Value::NotDriven, 0), "{time}");
     }
     assert_eq!(
         printed(&file),

@@ -1,5 +1,6 @@
 //! Ask 5: the worked examples byte for byte, every boundary of refusal 24, the room, and reading back.
 
+use super::found;
 use crate::*;
 
 /// What is given to the writer.
@@ -504,7 +505,7 @@ fn times_never_fall_over_the_whole_list() {
     let mut bits = [0];
     assert_eq!(
         judged.value_at(0, 5, &mut bits),
-        Ok(Value::Bits { width: 1 })
+        found(Value::Bits { width: 1 }, 1)
     );
     assert_eq!(bits, *b"1");
 }

@@ -1,4 +1,3 @@
-use borrow.Author.Needs.{needs}
 use Rattle.lxt_reader.proofs.ChangeWays.{Seeking, seek-begun, seek-ended, seek-inside, seek-found, seek-next, seek-falls}
 use Rattle.lxt_reader.proofs.changes.on_chain.Statement.{statement}
 use Rattle.lxt_reader.proofs.changes.on_chain.Tie as tie

@@ -1,5 +1,3 @@
-use borrow.Author.Needs.{needs}
-use mathlib.Core.Path.{refl}
 use native.Mathlib.Omega.{arith}
 use Rattle.lxt_values.specs.Entries.{Latest}
 use Rattle.lxt_values.proofs.EntryLaws.{above-zero, down-found, down-first, down-next}

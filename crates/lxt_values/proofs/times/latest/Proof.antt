@@ -9,10 +9,10 @@ use Rattle.lxt_values.proofs.times.latest.Statement.{statement}
 use Rattle.lxt_values.proofs.times.latest.Tie as tie
 
 abbrev Inv-loop : tie.InvT-loop
-Inv-loop file times m wide from t end o₀ o = Falling file (toZ w64 t) from o
+Inv-loop file times m wide from t end o₀ visited₀ o visited = Falling file (toZ w64 t) from o visited
 
 abbrev μ-loop : tie.MeasureT-loop
-μ-loop file times m wide from t end o₀ o = o
+μ-loop file times m wide from t end o₀ visited₀ o visited = o
 
 with-bias-requires : tie.Need-with-bias-requires Inv-loop μ-loop
 with-bias-requires c κs = search needs
@@ -23,26 +23,45 @@ limit-requires c κs = c .before .before .pre .0
 loop-holds : tie.Need-loop-holds Inv-loop μ-loop
 loop-holds c = falling-begun _ _ _ (c .before .before .before .pre .1)
 
+add-visited : tie.Need-add-visited Inv-loop μ-loop
+add-visited c =
+    let inv = c .before .loop .inv in
+    let start = c .before .before .before .before .before in
+    record { fits = omega (arith, inv .above, start .fits .from .fits) }
+
 returns : tie.Need-returns Inv-loop μ-loop
-returns c = latest-at _ _ (c .before .before .before .before .before .before .fits .t) _ _ (chain-ended _ _ _ _ (c .before .before .loop .inv) (c .if1 .taken))
+returns c =
+    let turn = c .before in
+    let top = turn .before in
+    let limited = top .before in
+    let start = limited .before .before .before in
+    let limit = limit-at _ _ (start .fits .t) _ _ (limited .before .with-bias .ensures) (limited .limit .ensures) in
+    latest-at _ _ (start .fits .t) _ _ _ (first-below _ _ _ _ _ (top .loop .inv) (turn .loop-test .taken) _ limit (c .if1 .taken))
 
 previous-requires : tie.Need-previous-requires Inv-loop μ-loop
-previous-requires c κs =
-    let start = c .before .before .before .before .before .before in
-    change-readable _ _ _ _ (c .before .before .loop .inv) _ (limit-at _ _ (start .fits .t) _ _ (c .before .before .before .before .with-bias .ensures) (c .before .before .before .limit .ensures)) (c .if1 .left)
+previous-requires c κs = change-readable _ _ _ _ _ (c .before .before .loop .inv) (c .before .loop-test .taken)
 
 loop-less : tie.Need-loop-less Inv-loop μ-loop
-loop-less c = omega (arith, c .previous .ensures, previous-lt (c .before .before .before .before .before .before .before .args .file .now) (c .before .before .before .loop .o) (omega arith))
+loop-less c =
+    let turn = c .before .before in
+    let top = turn .before in
+    let start = top .before .before .before .before in
+    omega (arith, c .previous .ensures, previous-lt (start .args .file .now) (top .loop .o) (omega (arith, turn .loop-test .taken)))
 
 loop-again : tie.Need-loop-again Inv-loop μ-loop
 loop-again c =
-    let start = c .before .before .before .before .before .before .before in
-    falling-turn _ _ _ _ (c .before .before .before .loop .inv) _ (limit-at _ _ (start .fits .t) _ _ (c .before .before .before .before .before .with-bias .ensures) (c .before .before .before .before .limit .ensures)) (c .before .if1 .left) (c .before .before .loop-test .taken) _ (c .previous .ensures)
+    let turn = c .before .before in
+    let top = turn .before in
+    let limited = top .before in
+    let start = limited .before .before .before in
+    let limit = limit-at _ _ (start .fits .t) _ _ (limited .before .with-bias .ensures) (limited .limit .ensures) in
+    falling-turn _ _ _ _ _ (top .loop .inv) (turn .loop-test .taken) _ limit (c .before .if1 .left) _ (c .previous .ensures)
 
 returns-2 : tie.Need-returns-2 Inv-loop μ-loop
 returns-2 c =
-    let start = c .before .before .before .before .before in
-    latest-at _ _ (start .fits .t) _ _ (first-below _ _ _ _ (c .before .loop .inv) _ (limit-at _ _ (start .fits .t) _ _ (c .before .before .before .with-bias .ensures) (c .before .before .limit .ensures)) (c .loop-test .left))
+    let top = c .before in
+    let start = top .before .before .before .before in
+    latest-at _ _ (start .fits .t) _ _ _ (chain-ended _ _ _ _ _ (top .loop .inv) (c .loop-test .left))
 
 pub latest-spec : {M : Type 1} → statement M
 latest-spec =
@@ -53,6 +72,7 @@ latest-spec =
     with-bias-requires
     limit-requires
     loop-holds
+    add-visited
     returns
     previous-requires
     loop-less

@@ -1,5 +1,5 @@
 use native.Mathlib.Omega.{arith}
-use Rattle.lxt_values.proofs.BiasLaws.{turned, kept, bits-cast, bits-are, Bits}
+use Rattle.lxt_values.proofs.BiasLaws.{turned, kept, bits-cast, bits-are}
 use borrow.Author.Needs.{needs}
 use Rattle.lxt_values.proofs.times.with_bias.Statement.{statement}
 use Rattle.lxt_values.proofs.times.with_bias.Tie as tie

@@ -1,7 +1,8 @@
 //! Measures the proved functions beside the independent reader and writer, and prints tables:
 //!
 //! ```text
-//! cargo run --release --offline -p lxt-compare --bin bench [ratios] [stray] [growth] [hostile] [writing] [unpacking] [stack]
+//! cargo run --release --offline -p lxt-compare --bin bench [ratios] [lookups] [stray] [growth] [hostile] [writing]
+//!     [unpacking] [stack]
 //! ```
 //!
 //! Without a word it makes all parts.
@@ -10,8 +11,10 @@
 //! file that the rules ask of it. What is lent is made before the clock starts. The runs of the two sides
 //! alternate; a time is the median of its runs.
 
+mod before;
 mod growth;
 mod hostile;
+mod lookups;
 mod ratios;
 mod stack;
 mod stray;
@@ -24,9 +27,13 @@ fn main() {
     if words == [unpacking::TIMES] {
         return unpacking::print_times();
     }
+    if words == [lookups::TIMES] {
+        return lookups::print_times();
+    }
     let asked = |part: &str| words.is_empty() || words.iter().any(|word| word == part);
     for (part, print) in [
         ("ratios", ratios::print as fn()),
+        ("lookups", lookups::print),
         ("stray", stray::print),
         ("growth", growth::print),
         ("hostile", hostile::print),

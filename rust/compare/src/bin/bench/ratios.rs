@@ -137,9 +137,10 @@ fn values(input: &Input, one: f64) {
     let questions: Vec<(u32, i64)> = (0..calls).map(question).collect();
     let (mut bits, mut other) = (vec![0; 4_096], vec![0; 4_096]);
     for (facility, time) in &questions {
-        let ours = lxt::value_at(file, *facility, *time, &mut bits);
+        let ours = lxt::value_at(file, *facility, *time, &mut bits).map(|it| it.visited);
         let theirs = lxt_reference::value_at(file, *facility, *time, &mut other);
-        assert_eq!((ours.is_ok(), &bits), (theirs.is_ok(), &other));
+        let theirs = theirs.map(|it| it.visited);
+        assert_eq!((ours.ok(), &bits), (theirs.ok(), &other));
     }
     let times = medians(
         || {

@@ -1,12 +1,10 @@
 //! Unpacking: a value of 4,096 bits by each form, read by a change and by a value at a time, against safe Rust
-//! and against storing the symbols. Where `LXT_BENCH_BEFORE` names this program linked with another archive
-//! (`LXT_ARCHIVE_DIR`), both measure in turn, and what the other measured is shown as before.
+//! and against storing the symbols, and beside another archive where one is named.
 
-use std::env;
 use std::hint::black_box;
-use std::process::Command;
 
-use crate::timing::{median, seconds, shown, used};
+use crate::before;
+use crate::timing::{seconds, shown, used};
 use lxt_compare::write::independent;
 use lxt_generate::{Input, Random, BITS};
 
@@ -132,52 +130,22 @@ fn reference(forms: &[Form]) -> Vec<[f64; 2]> {
 
 /// Prints the times of the calls, for the program that asked.
 pub fn print_times() {
-    for [change, value] in proved(&forms()) {
-        println!("{change:e} {value:e}");
-    }
-}
-
-/// What the program linked with another archive measures, where one is named.
-fn calls_before() -> Option<Vec<[f64; 2]>> {
-    let program = env::var_os("LXT_BENCH_BEFORE")?;
-    let output = Command::new(program).arg(TIMES).output();
-    let output = output.expect("the program of LXT_BENCH_BEFORE runs");
-    let printed = String::from_utf8(output.stdout).expect("its times");
-    let times = printed.lines().map(|line| {
-        let mut words = line.split(' ').map(|word| word.parse().expect("a time"));
-        [(); 2].map(|()| words.next().expect("two times"))
-    });
-    Some(times.collect())
-}
-
-/// The medians of several measurements of all forms.
-fn medians(all: &[Vec<[f64; 2]>]) -> Vec<[f64; 2]> {
-    let of = |form: usize, call: usize| median(all.iter().map(|one| one[form][call]).collect());
-    (0..all[0].len())
-        .map(|form| [of(form, 0), of(form, 1)])
-        .collect()
+    before::print_rows(&proved(&forms()));
 }
 
 // ---- The tables ----
-
-/// A time before, and how often the time now goes into it.
-fn against(before: Option<f64>, now: f64) -> String {
-    match before {
-        Some(before) => format!("{} | {:.2}", shown(before), before / now),
-        None => "- | -".to_string(),
-    }
-}
 
 pub fn print() {
     let forms = forms();
     let (mut now, mut before, mut theirs) = (Vec::new(), Vec::new(), Vec::new());
     for _ in 0..5 {
         now.push(proved(&forms));
-        before.extend(calls_before());
+        before.extend(before::rows(TIMES));
         theirs.push(reference(&forms));
     }
-    let (now, theirs) = (medians(&now), medians(&theirs));
-    let before = (!before.is_empty()).then(|| medians(&before));
+    let now = before::medians(&now).expect("times");
+    let theirs = before::medians(&theirs).expect("times");
+    let before = before::medians(&before);
 
     println!("\nUnpacking: calls that read a value of {WIDTH} bits, each with judging its file\n");
     println!(
@@ -190,7 +158,7 @@ pub fn print() {
             println!(
                 "| {} | {what} | {} | {} | {} | {:.2} |",
                 form.name,
-                against(before.as_ref().map(|it| it[place][call]), ours),
+                before::against(before.as_ref().map(|it| it[place][call]), ours),
                 shown(ours),
                 shown(other),
                 ours / other,
@@ -212,7 +180,7 @@ pub fn print() {
         println!(
             "| {} | {} | {} | {} | {:.2} | {} | {:.1} |",
             form.name,
-            against(before.as_ref().map(|it| alone(it, place)), ours),
+            before::against(before.as_ref().map(|it| alone(it, place)), ours),
             shown(ours),
             shown(safe),
             ours / safe,
