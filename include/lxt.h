@@ -13,7 +13,8 @@
  *
  * - A pointer is to as many objects as its length or room says, or to one object of its type. With a length
  *   or room of 0 it may be null. No other pointer may be null.
- * - No two of them overlap. What is lent, the bytes of the file above all, does not change during the call.
+ * - What is written overlaps nothing else that is lent; what is only read may overlap. What is lent, the
+ *   bytes of the file above all, does not change during the call.
  * - 128 KiB of stack are enough for each call; the most that was measured is 123,752 bytes.
  *
  * The functions keep nothing between calls: there is nothing to set up or to free, and calls can be made
@@ -178,7 +179,8 @@ uint32_t lxt_change_before(const uint8_t *file, size_t length, uint32_t facility
  * Bits and integers have symbols, LXT_SYMBOLS in ASCII, and need a room of their width or more; bytes of bits
  * past the width stay, and all of them for a real or a text. A real's number as a double is
  * memcpy(&real, &value.number, 8). Texts are any bytes but 0. Not driven is a real or a text that has no
- * change up to the time; bits and integers have the initial symbol at every place then. */
+ * change up to the time; bits and integers have the initial symbol at every place then, and lxt_text_at
+ * answers a lent text in place of one that is not driven. */
 enum lxt_what { LXT_IS_BITS = 0, LXT_IS_REAL = 1, LXT_IS_TEXT = 2, LXT_NOT_DRIVEN = 3 };
 
 typedef struct {
@@ -201,6 +203,39 @@ uint32_t lxt_change(const uint8_t *file, size_t length, uint32_t facility, uint3
  * half the bytes between C and T, since each change takes two bytes at least. Judging is not counted. */
 uint32_t lxt_value_at(const uint8_t *file, size_t length, uint32_t facility, int64_t time, uint8_t *bits,
                       size_t room, lxt_value *value, uint32_t *visited);
+
+/* A text as a part of the file or of a text that the caller lends, and which of the two:
+ *
+ *     from               start                             length
+ *     LXT_FROM_FILE      where the text starts in          its length in bytes, without the
+ *                        the file                          zero behind it in the file
+ *     LXT_FROM_LENT      0                                 that of the whole lent text
+ *     LXT_OTHER_KIND     0                                 0
+ *
+ * Another kind is bits, an integer or a real, driven or not: it has no text. */
+enum lxt_from { LXT_FROM_FILE = 0, LXT_FROM_LENT = 1, LXT_OTHER_KIND = 2 };
+
+typedef struct {
+    uint64_t from;   /* an enum lxt_from */
+    uint64_t start;  /* of the part in the file; else 0 */
+    uint64_t length; /* of the part in bytes, without the zero behind it in the file; 0 of another kind */
+} lxt_part;
+
+/* The text at a time, which may be any, with a lent text as the default. It is that of the change of highest
+ * offset whose time is at most that, as by lxt_value_at. Where there is none, whether the facility has later
+ * changes or no change at all, it is the whole lent text. An alias is asked as its root.
+ *
+ * Nothing is copied: the bytes of the part are at
+ *
+ *     (part.from == LXT_FROM_FILE ? file : text) + part.start
+ *
+ * An empty part does not say which of the two it is, since either text may be empty; from says it.
+ *
+ * The lent text is any bytes, zeros too, of any length, and may lie in the file; its bytes are not read. Only
+ * part is written, so there is no lack of room: after the file's refusals 18 is the only one. Where it refuses,
+ * part stays as it was. */
+uint32_t lxt_text_at(const uint8_t *file, size_t length, uint32_t facility, int64_t time,
+                     const uint8_t *text, size_t text_length, lxt_part *part);
 
 /* The walk: all changes of the facilities asked for, the highest offset first, in calls of any size. All
  * changes of all facilities, where n is facilities of lxt_judge's summary:

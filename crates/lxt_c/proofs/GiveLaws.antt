@@ -14,15 +14,18 @@ use native.Mathlib.Omega.{arith}
 use native.Mathlib.Decide.{ℕ-discrete}
 use Rattle.lxt_format.specs.Basics.{Answer, given, refused, answer}
 use Rattle.lxt_format.specs.BasicsLaws.{on-test, answer-given, answer-refused}
-use Rattle.lxt_format.specs.Answers.{Shown, valueSays, timedSays, lookupSays, carrySays}
-use Rattle.lxt_format.specs.Questions.{readingRefusal, changeAsked, valueRefusal, valueAsked, valueBuffer}
+use Rattle.lxt_format.specs.Values.{TextSource}
+use Rattle.lxt_format.specs.Answers.{Shown, valueSays, timedSays, lookupSays, textSays, carrySays}
+use Rattle.lxt_format.specs.Questions.{readingRefusal, changeAsked, valueRefusal, valueAsked, valueBuffer, textAsked}
 use Rattle.lxt_format.specs.declared.CarryAnswer.{CarryAnswer}
 use Rattle.lxt_format.specs.declared.CarryAnswer.the-variants.{Handed}
 use Rattle.lxt_format.specs.declared.TimedValue.{TimedValue}
 use Rattle.lxt_format.specs.declared.Lookup.{Lookup}
+use Rattle.lxt_format.specs.declared.TextAnswer.{TextAnswer}
+use Rattle.lxt_format.specs.declared.TextAnswer.the-variants.{File, Lent}
 use Rattle.lxt_format.specs.declared.Value.{Value}
 use Rattle.lxt_format.specs.declared.Value.the-variants.{Bits, Real, Text}
-use Rattle.lxt_c.specs.Numbers.{numberOf, oneNumber, valueNumbers, shownNumbers, yesNo, besideValue, changeTime, changeClean, lookupVisited, carryNumbers}
+use Rattle.lxt_c.specs.Numbers.{numberOf, oneNumber, valueNumbers, shownNumbers, yesNo, besideValue, changeTime, changeClean, lookupVisited, textNumbers, sourceNumbers, carryNumbers}
 
 is-given : {A : Type 0} → Answer A → ℕ
 is-given (given a) = 1
@@ -142,6 +145,35 @@ module _ (s : List ℕ) (f : ℕ) (t : ℤ) (fits : SFits w64 t) where
     unfolding valueAsked
     at-visited z before =
         ap (λ a. a .visited) at-time ∙ beside-given (valueRefusal s f room) _ (valueAsked s f t room .visited) before (sym at-number ∙ z)
+
+-- where a text stands
+module _ (a : TextAnswer) where
+  pub file-number : (start size : ℕ) → a ≡ File start size → 0 ≡ numberOf (textSays a)
+  unfolding numberOf
+  file-number start size e = rw e
+
+  pub file-numbers : (start size : ℕ) → a ≡ File start size → (before : List ℕ) → (0 ∷ start ∷ size ∷ []) ≡ textNumbers (textSays a) before
+  unfolding textNumbers sourceNumbers
+  file-numbers start size e before = rw e
+
+  pub lent-number : (size : ℕ) → a ≡ Lent size → 0 ≡ numberOf (textSays a)
+  unfolding numberOf
+  lent-number size e = rw e
+
+  pub lent-numbers : (size : ℕ) → a ≡ Lent size → (before : List ℕ) → (1 ∷ 0 ∷ size ∷ []) ≡ textNumbers (textSays a) before
+  unfolding textNumbers sourceNumbers
+  lent-numbers size e before = rw e
+
+-- the text at a time, which is read back from its bits
+module _ (s : List ℕ) (f : ℕ) (t : ℤ) (fits : SFits w64 t) (lent : ℕ) (a : Answer TextSource) (e : a ≡ textAsked s f (toZ w64 (ofZ w64 t)) lent) where
+  text-at : a ≡ textAsked s f t lent
+  text-at = e ∙ ap (λ z. textAsked s f z lent) (toZ-ofZ w64 t fits)
+
+  pub text-at-number : (r : ℕ) → r ≡ numberOf a → r ≡ numberOf (textAsked s f t lent)
+  text-at-number r h = h ∙ ap numberOf text-at
+
+  pub text-at-numbers : (before after : List ℕ) → after ≡ textNumbers a before → after ≡ textNumbers (textAsked s f t lent) before
+  text-at-numbers before after h = h ∙ ap (λ x. textNumbers x before) text-at
 
 -- pairs that were handed out
 module _ (a : CarryAnswer) (count : ℕ) (done : Bool) (e : a ≡ Handed count done) where

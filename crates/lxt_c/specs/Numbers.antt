@@ -4,6 +4,7 @@ use mathlib.Core.Bool.{Bool}
 use mathlib.Core.List.{List, [], _∷_}
 use lib.IntN.{ℤ}
 use Rattle.lxt_format.specs.Basics.{if_then_else_, Answer, given, refused}
+use Rattle.lxt_format.specs.Values.{TextSource, inFile, lentText, otherKind}
 use Rattle.lxt_format.specs.Answers.{Shown, bitsOf, realOf, textOf, nothing, Timed, LookedUp}
 use Rattle.lxt_format.specs.declared.Summary.{Summary}
 use Rattle.lxt_format.specs.declared.Facts.{Facts}
@@ -78,6 +79,16 @@ changeClean a before = besideValue (a .value) (yesNo (a .clean)) before
 -- how many changes a lookup visited
 abbrev pub lookupVisited : LookedUp → ℕ → ℕ
 lookupVisited a before = besideValue (a .value) (a .visited) before
+
+-- a text as three numbers: which of the two, and its start and length there; what was there where the question is refused
+unfoldable pub sourceNumbers : TextSource → List ℕ
+sourceNumbers (inFile start size) = 0 ∷ start ∷ size ∷ []
+sourceNumbers (lentText size) = 1 ∷ 0 ∷ size ∷ []
+sourceNumbers otherKind = 2 ∷ 0 ∷ 0 ∷ []
+
+unfoldable pub textNumbers : Answer TextSource → List ℕ → List ℕ
+textNumbers (given a) before = sourceNumbers a
+textNumbers (refused k) before = before
 
 -- carrying on: how many pairs were handed out, and whether all pending offsets are 0; what was there where it is refused
 unfoldable pub carryNumbers : Answer (ℕ × Bool) → List ℕ → List ℕ

@@ -4,17 +4,19 @@ ghost use mathlib.Core.Path.{_≡_};
 ghost use Rattle.lxt_format.specs.Judge.{judge};
 ghost use Rattle.lxt_format.specs.Stray.{strayAsked};
 ghost use lib.ListN.{length};
-ghost use Rattle.lxt_format.specs.Answers.{numberSays, valueSays};
-ghost use Rattle.lxt_format.specs.Questions.{factsAsked, rootAsked, nameAsked, nameBuffer, beforeAsked, changeAsked, changeBuffer, valueAsked, valueBuffer};
-ghost use Rattle.lxt_c.specs.Numbers.{numberOf, judgeNumbers, judgeTimescale, kindNumber, factsNumbers, factsMsb, factsLsb, oneNumber, valueNumbers, yesNo, changeTime, changeClean, lookupVisited};
+ghost use Rattle.lxt_format.specs.Answers.{numberSays, valueSays, textSays};
+ghost use Rattle.lxt_format.specs.Questions.{factsAsked, rootAsked, nameAsked, nameBuffer, beforeAsked, changeAsked, changeBuffer, valueAsked, valueBuffer, textAsked};
+ghost use Rattle.lxt_c.specs.Numbers.{numberOf, judgeNumbers, judgeTimescale, kindNumber, factsNumbers, factsMsb, factsLsb, oneNumber, valueNumbers, yesNo, changeTime, changeClean, lookupVisited, textNumbers};
 use lxt_format::FactsAnswer;
 use lxt_format::Judgement;
 use lxt_format::Kind;
 use lxt_format::NumberAnswer;
+use lxt_format::TextAnswer;
 use lxt_format::Value;
 use lxt_reader::changes;
 use lxt_reader::facilities;
 use lxt_reader::names;
+use lxt_reader::texts;
 use lxt_reader::values;
 
 pub mod walk;
@@ -230,4 +232,42 @@ pub extern "C" fn lxt_value_at(
     let count = l.visited;
     *visited = count;
     0
+}
+
+// A text as three numbers: 0 and its start and length in the file; 1, 0 and the length of the lent text; or
+// 2, 0 and 0, another kind.
+fn give_text(a: TextAnswer, part: &mut [u64; 3]) -> u32
+    ensures { λ r. ⌜ (r ≡ numberOf (textSays a)) × (now (part .exit) ≡ textNumbers (textSays a) (now (part .entry))) ⌝ }
+{
+    match a {
+        TextAnswer::File { start, length } => {
+            *part = [0, start as u64, length as u64];
+            0
+        }
+        TextAnswer::Lent { length } => {
+            *part = [1, 0, length as u64];
+            0
+        }
+        TextAnswer::OtherKind => {
+            *part = [2, 0, 0];
+            0
+        }
+        TextAnswer::Refused(n) => n as u32,
+    }
+}
+
+// Where the text at a time stands, in the file or the lent text.
+#[no_mangle]
+pub extern "C" fn lxt_text_at(
+    file: &[u8],
+    facility: u32,
+    time: i64,
+    text: &[u8],
+    part: &mut [u64; 3],
+) -> u32
+    ensures { λ r. ⌜ r ≡ numberOf (textAsked (now (file .entry)) facility time (length (now (text .entry)))) ⌝ }
+    ensures { λ _. ⌜ now (part .exit) ≡ textNumbers (textAsked (now (file .entry)) facility time (length (now (text .entry)))) (now (part .entry)) ⌝ }
+{
+    let a = texts::place_at(file, facility, time, text);
+    give_text(a, part)
 }

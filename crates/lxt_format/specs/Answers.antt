@@ -5,7 +5,7 @@ use lib.ListN.{length}
 use lib.IntN.{ℤ}
 use lib.Ieee.{Float}
 use Rattle.lxt_format.specs.Basics.{Answer, given, refused}
-use Rattle.lxt_format.specs.Values.{Content, bits, real, text, notDriven}
+use Rattle.lxt_format.specs.Values.{Content, bits, real, text, notDriven, TextSource, inFile, lentText, otherKind}
 use Rattle.lxt_format.specs.declared.Summary.{Summary}
 use Rattle.lxt_format.specs.declared.Facts.{Facts}
 use Rattle.lxt_format.specs.declared.Judgement.{Judgement}
@@ -18,6 +18,8 @@ use Rattle.lxt_format.specs.declared.Value.{Value}
 use Rattle.lxt_format.specs.declared.Value.the-variants as ofValue
 use Rattle.lxt_format.specs.declared.TimedValue.{TimedValue}
 use Rattle.lxt_format.specs.declared.Lookup.{Lookup}
+use Rattle.lxt_format.specs.declared.TextAnswer.{TextAnswer}
+use Rattle.lxt_format.specs.declared.TextAnswer.the-variants as ofText
 use Rattle.lxt_format.specs.declared.StartAnswer.{StartAnswer}
 use Rattle.lxt_format.specs.declared.StartAnswer.the-variants as ofStart
 use Rattle.lxt_format.specs.declared.CarryAnswer.{CarryAnswer}
@@ -71,6 +73,12 @@ pub record LookedUp : Type 0 where
 
 abbrev pub lookupSays : Lookup → LookedUp
 lookupSays l = record { value = valueSays (l .value); visited = l .visited }
+
+abbrev pub textSays : TextAnswer → Answer TextSource
+textSays (ofText.File start size) = given (inFile start size)
+textSays (ofText.Lent size) = given (lentText size)
+textSays ofText.OtherKind = given otherKind
+textSays (ofText.Refused n) = refused n
 
 abbrev pub startSays : StartAnswer → Answer (Unit {0})
 startSays ofStart.Started = given tt

@@ -29,6 +29,7 @@ pub mod Buffers
 pub mod ShortTimes
 pub mod ShortTimesLaws
 pub mod Questions
+pub mod ValuesLaws
 pub mod Stray
 pub mod Everything
 pub mod Traces
@@ -40,3 +41,5 @@ pub mod WideTimes
 pub mod StrayBytes
 pub mod Visited
 pub mod VisitedLaws
+pub mod LentText
+pub mod LentTextLaws

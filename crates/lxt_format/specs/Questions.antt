@@ -1,19 +1,20 @@
 -- Paper 01, "What can be asked": each question's answer, and what everything lent holds afterwards.
 -- "Every call judges the file first, except carrying on: it does checks 1 to 14, then 20 to 21."
-use Prim.Native.Nat.{ℕ, _*_, _-_}
+use Prim.Native.Nat.{ℕ, _+_, _*_, _-_}
 use mathlib.Core.Bool.{Bool, _&&_}
 use mathlib.Core.List.{List, [], _++_}
 use lib.ListN.{length, drop, replicate}
+use lib.Seq.{slice}
 use lib.IntN.{ℤ, pos}
 use lib.Dec.{ltb, leb, eqb}
 use Rattle.lxt_format.specs.Limits.{longestName}
-use Rattle.lxt_format.specs.Basics.{if_then_else_, _unless_, _orElse_, Answer, answer, lentAfter, any}
+use Rattle.lxt_format.specs.Basics.{if_then_else_, _unless_, _orElse_, Answer, given, refused, answer, lentAfter, any}
 use Rattle.lxt_format.specs.Sections.{facilityCount}
 use Rattle.lxt_format.specs.Names.{nameOf}
 use Rattle.lxt_format.specs.Geometry.{rootOf, factsOf, syncOf}
 use Rattle.lxt_format.specs.Times.{timeOf}
 use Rattle.lxt_format.specs.Changes.{chainOf, previousOf, cleanAt}
-use Rattle.lxt_format.specs.Values.{Content, bits, real, text, notDriven, contentOf, visitedAt, contentAt}
+use Rattle.lxt_format.specs.Values.{Content, bits, real, text, notDriven, contentOf, visitedAt, contentAt, TextSource, inFile, lentText, otherKind, textAt}
 use Rattle.lxt_format.specs.Judge.{tablesRefusal, fileRefusal, signalOf}
 use Rattle.lxt_format.specs.Answers.{shown, Timed, LookedUp}
 use Rattle.lxt_format.specs.Walk.{startOffsets, withOffsets, offsetsOf, recordAllowed, high, handedOut, offsetsAfter, flat}
@@ -111,6 +112,31 @@ valueAsked s f t room =
 
 unfoldable pub valueBuffer : List ℕ → ℕ → ℤ → List ℕ → List ℕ
 valueBuffer s f t buffer = lentAfter (valueRefusal s f (length buffer)) (holdingBits (contentAt s (rootOf s f) t) buffer) buffer
+
+-- ---- its text at a time, or a lent text: paper 02, Ask 11
+
+-- "a second answer says which; where the question is refused or the kind is another, that answer gives the number or says so, .. and no bits are written or
+-- need room": the file's refusals and 18
+unfoldable pub textAsked : List ℕ → ℕ → ℤ → ℕ → Answer TextSource
+textAsked s f t lent = answer (facilityRefusal s f) (textAt s (rootOf s f) t lent)
+
+-- "The answer is then a part of the file or a part of the lent text", all of it; where refused or of another kind "the part is empty"
+unfoldable pub partBy : List ℕ → List ℕ → Answer TextSource → List ℕ
+partBy s lent (given (inFile start size)) = slice start (start + size) s
+partBy s lent (given (lentText size)) = lent
+partBy s lent (given otherKind) = []
+partBy s lent (refused n) = []
+
+unfoldable pub textPart : List ℕ → ℕ → ℤ → List ℕ → List ℕ
+textPart s f t lent = partBy s lent (textAsked s f t (length lent))
+
+-- where that part lies in memory, by where the file and the lent text do, each a block and an offset in it: so it is no copy, and no part of the other. An
+-- empty part that is no text is put at the lent text
+unfoldable pub placeBy : ℕ × ℕ → ℕ × ℕ → Answer TextSource → ℕ × ℕ
+placeBy file lent (given (inFile start size)) = (file .0, file .1 + start)
+placeBy file lent (given (lentText size)) = lent
+placeBy file lent (given otherKind) = lent
+placeBy file lent (refused n) = lent
 
 -- ---- start a walk
 

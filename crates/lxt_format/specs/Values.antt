@@ -77,3 +77,28 @@ unfoldable pub contentAt : List ℕ → ℕ → ℤ → Content
 contentAt s f t =
     if eqb (changeAt s f t) 0 then initialBy s (ownFacts s f .kind) (ownFacts s f .width)
     else contentOf s f (changeAt s f t)
+
+-- Paper 02, Ask 11: "The answer is then a part of the file or a part of the lent text, and a second answer says which; where .. the kind is another, that answer
+-- .. says so": the start and length of a part of the file, the lent text by its length, or another kind
+pub data TextSource : Type 0 where
+  inFile : ℕ → ℕ → TextSource
+  lentText : ℕ → TextSource
+  otherKind : TextSource
+
+-- "For a text facility before its first change, the default is now a text that the caller lends", of so many bytes: by the value that is driven or not
+unfoldable pub sourceOf : Content → ℕ → TextSource
+sourceOf (text start size) lent = inFile start size
+sourceOf notDriven lent = lentText lent
+sourceOf (bits symbols) lent = otherKind
+sourceOf (real x b) lent = otherKind
+
+-- "the kind is another": bits, integers and reals, driven or not
+unfoldable pub sourceBy : Kind → Content → ℕ → TextSource
+sourceBy Bits value lent = otherKind
+sourceBy Integer value lent = otherKind
+sourceBy Real value lent = otherKind
+sourceBy Text value lent = sourceOf value lent
+
+-- the text of the root f at the time t
+unfoldable pub textAt : List ℕ → ℕ → ℤ → ℕ → TextSource
+textAt s f t lent = sourceBy (ownFacts s f .kind) (contentAt s f t) lent

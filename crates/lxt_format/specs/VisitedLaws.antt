@@ -6,22 +6,22 @@ use mathlib.Core.List.{List, [], _∷_, map}
 use lib.ListN.{length}
 use lib.IntN.{ℤ, pos, negsuc}
 use lib.Signed.{leZ, ltZ}
-use lib.Dec.{leb, ltb, eqb, lit<}
+use lib.Dec.{leb, ltb, eqb}
 use native.Mathlib.Omega.{arith}
 use native.Mathlib.Decide.{decLe}
-use borrow.Author.Tests.{le-leb, lt-leb, lt-ltb, le-ltb, leb-true, ltb-true, eq-eqb, ne-eqb}
-use Rattle.lxt_format.specs.Basics.{if_then_else_, _unless_, select, firstFault}
-use Rattle.lxt_format.specs.BasicsLaws.{on-test, on-zero, and-both, neither, kept}
-use Rattle.lxt_format.specs.Sections.{endOf, changesFrom, facilityCount}
+use borrow.Author.Tests.{le-leb, lt-leb, lt-ltb, le-ltb, leb-true, eq-eqb, ne-eqb}
+use Rattle.lxt_format.specs.Basics.{if_then_else_, select, firstFault}
+use Rattle.lxt_format.specs.BasicsLaws.{on-test, on-zero, and-both, neither}
+use Rattle.lxt_format.specs.Sections.{endOf, changesFrom}
 use Rattle.lxt_format.specs.Geometry.{rootOf, syncOf}
-use Rattle.lxt_format.specs.GeometryLaws.{root-below, root-no-alias}
 use Rattle.lxt_format.specs.Times.{timeOf}
 use Rattle.lxt_format.specs.Changes.{Signal, deltaOf, previousOf, previousAllowed, faultAt, chainWithin, chainOf, chainFault}
 use Rattle.lxt_format.specs.ChangesLaws.{previous-lt, chain-none, sound, end-after}
 use Rattle.lxt_format.specs.Values.{latestAt, changeAt, visitedIn, visitedAt}
-use Rattle.lxt_format.specs.Judge.{signalOf, faultFrom, fileRefusal}
-use Rattle.lxt_format.specs.JudgeLaws.{passed, accepted, root-sound, newest-sound}
+use Rattle.lxt_format.specs.Judge.{signalOf, faultFrom}
+use Rattle.lxt_format.specs.JudgeLaws.{newest-sound}
 use Rattle.lxt_format.specs.Questions.{facilityRefusal, valueRefusal, valueAsked}
+use Rattle.lxt_format.specs.ValuesLaws.{facility-sound}
 use Rattle.lxt_format.specs.Visited.{VisitedMost, NoneAnswered}
 
 -- ---- "time after t"
@@ -159,14 +159,9 @@ chain-bound s f o h =
 
 -- "It is at most (T - C) / 2", of each facility of an accepted file
 pub visited-most : (s : List ℕ) (f : ℕ) (t : ℤ) → facilityRefusal s f ≡ 0 → visitedAt s (rootOf s f) t ≤ (endOf s - changesFrom s) / 2
-unfolding facilityRefusal visitedAt
+unfolding visitedAt
 visited-most s f t h =
-    let asked = neither (fileRefusal s) (18 unless ltb f (facilityCount s)) h in
-    let file = accepted s (asked .0) in
-    let below = ltb-true f (facilityCount s) (kept 18 _ (lit< tt) (asked .1)) in
-    let r = root-below s (passed s (file .tables) .aliases) f below in
-    let fault = root-sound s (file .chains) (rootOf s f) r (root-no-alias s f r) in
-    let changes = chain-bound s (rootOf s f) (syncOf s (rootOf s f)) fault in
+    let changes = chain-bound s (rootOf s f) (syncOf s (rootOf s f)) (facility-sound s f h) in
     let all = visited-le s t (chainOf s (syncOf s (rootOf s f))) in
     omega arith
 

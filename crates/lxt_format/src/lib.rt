@@ -2,7 +2,7 @@
 // definition in specs/; nothing here computes more than a bound.
 ghost use mathlib.Core.Path.{_≡_};
 ghost use mathlib.Core.Bool.{_&&_};
-ghost use Prim.Native.Nat.{_-_, _≤_};
+ghost use Prim.Native.Nat.{_-_};
 ghost use lib.Dec.{leb};
 ghost use Rattle.lxt_format.specs.Limits.{shortestFile, longestFile, mostFacilities, longestName, widestFacility};
 
@@ -172,6 +172,18 @@ pub struct TimedValue {
 pub struct Lookup {
     pub value: Value,
     pub visited: u32,
+}
+
+// The text of a facility at a time, with a text that the caller lends where it has no change up to then: where it
+// stands.
+pub enum TextAnswer {
+    // A part of the file, without the zero.
+    File { start: u32, length: u32 },
+    // The whole lent text.
+    Lent { length: usize },
+    // The values of the facility are no texts.
+    OtherKind,
+    Refused(u8),
 }
 
 // A facility's number and an offset: a pair of the walk record, whose offset is the pending one, or

@@ -2,7 +2,7 @@
 use Prim.Native.Nat.{ℕ, _≤_, _<_}
 use mathlib.Core.Path.{_≡_, refl, sym, _∙_}
 use mathlib.Core.Bool.{Bool, true, false, _||_}
-use mathlib.Core.List.{List, [], _∷_}
+use mathlib.Core.List.{List, _∷_}
 use lib.ListN.{length}
 use lib.Dec.{eqb}
 use native.Mathlib.Omega.{arith}
@@ -19,7 +19,8 @@ use Rattle.lxt_format.specs.declared.Facts.{Facts}
 use Rattle.lxt_tables.specs.Asked.{Sync}
 use Rattle.lxt_tables.proofs.TablesLaws.{Known, root-in, root-plain, tables-known}
 use Rattle.lxt_values.specs.Times.{Readable, change}
-use Rattle.lxt_values.proofs.SoundChains.{chain-readable, change-sound}
+use Rattle.lxt_format.specs.ValuesLaws.{change-sound}
+use Rattle.lxt_values.proofs.SoundChains.{chain-readable}
 use Rattle.lxt_reader.specs.Asking.{Answers}
 use Rattle.lxt_reader.specs.Changing.{Followed, Chained, Looked}
 use Rattle.lxt_reader.specs.declared.facilities.Asked.{Asked}

@@ -3,3 +3,4 @@ pub mod AskWays
 pub mod NameWays
 pub mod ChangeWays
 pub mod ValueWays
+pub mod TextWays

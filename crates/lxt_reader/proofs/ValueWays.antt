@@ -32,7 +32,8 @@ use Rattle.lxt_format.specs.declared.Kind.the-variants.{Bits, Integer, Real, Te
 use Rattle.lxt_values.specs.Reals.{order-places}
 use Rattle.lxt_values.specs.Times as Ti
 use Rattle.lxt_values.specs.Times.{Readable}
-use Rattle.lxt_values.proofs.SoundChains.{chain-readable, latest-change-sound}
+use Rattle.lxt_format.specs.ValuesLaws.{latest-change-sound}
+use Rattle.lxt_values.proofs.SoundChains.{chain-readable}
 use Rattle.lxt_tables.specs.Stage.{tablesOf}
 use Rattle.lxt_tables.proofs.TablesLaws.{Known, tables-known, entry-allowed, root-in, root-plain, width-most, has-real, real-order}
 use Rattle.lxt_changes.specs.Padding.{Inside}
@@ -176,6 +177,36 @@ module _ (s : List ℕ) (f o : ℕ) (buffer : List ℕ) (c : Chain) (w : Looked 
         let j = ez ∙ clean-is s f c (w .tables) facility-fine (w .followed h) o in
         (rw (toZ-ofZ w64 time (record { sfits = ft }), change-fine, le-leb _ _ g, et, ev, i, j), ea ∙ rw (change-fine, le-leb _ _ g, i))
 
+-- ---- the latest change at a time
+
+module _ (s : List ℕ) (f : ℕ) (t : ℤ) (c : Chain) (w : Chained s f c) (h : c .refusal ≡ 0) where
+  pub asked-fine : facilityRefusal s f ≡ 0
+  asked-fine = sym (w .refusal) ∙ h
+
+  pub latest-asks : Ti.Times s (c .tables .times) (c .tables .«time_count») (c .tables .«wide_times») × Readable s (chainOf s (c .start))
+  latest-asks = (times-there s f c (w .tables) asked-fine (w .followed h), chain-there s f c (w .tables) asked-fine (w .followed h))
+
+  module _ (o visited : ℕ) (found : (o ≡ latestAt s t (chainOf s (c .start))) × (visited ≡ visitedIn s t (chainOf s (c .start)))) where
+    pub change-is : o ≡ changeAt s (rootOf s f) t
+    unfolding changeAt
+    change-is = found .0 ∙ rw (w .followed h .start)
+
+    pub visited-is : visited ≡ visitedAt s (rootOf s f) t
+    unfolding visitedAt
+    visited-is = found .1 ∙ rw (w .followed h .start)
+
+    -- at most (T - C) / 2 fits 32 bits
+    pub visited-fits : visited < 4294967296
+    visited-fits =
+        let k = tables-are s f c (w .tables) asked-fine (w .followed h) in
+        omega (arith, visited-is, visited-most s f t asked-fine, k .end-high, k .end, k .long)
+
+    pub latest-fine : (o ≡ 0 → ⊥) → Sound s (signalBy s (c .facts)) o
+    unfolding faultFrom factsOf
+    latest-fine some =
+        rw (found .0, w .followed h .facts)
+        (latest-change-sound s _ (c .start) (w .followed h .fault) t (λ z. some (found .0 ∙ z)))
+
 -- ---- the value at a time
 
 module _ (s : List ℕ) (f : ℕ) (t : ℤ) (buffer : List ℕ) (c : Chain) (w : Chained s f c) where
@@ -192,69 +223,48 @@ module _ (s : List ℕ) (f : ℕ) (t : ℤ) (buffer : List ℕ) (c : Chain) (w :
       (q ∙ a .0, a .1)
 
   module _ (h : c .refusal ≡ 0) where
-    asked-fine : facilityRefusal s f ≡ 0
-    asked-fine = sym (w .refusal) ∙ h
+    fine : facilityRefusal s f ≡ 0
+    fine = asked-fine s f t c w h
 
     pub value-short : length buffer < c .facts .width → (r : Lookup) → lookupSays r ≡ notFound 21
         → (lookupSays r ≡ valueAsked s f t (length buffer)) × (buffer ≡ valueBuffer s f t buffer)
     unfolding valueRefusal
     value-short short r q =
         let g : length buffer < factsOf s f .width = rw (w .followed h .facts) at short in
-        let a = tells 21 (rw (asked-fine, lt-leb _ _ g)) (eqb-false 21 0 refl) in
+        let a = tells 21 (rw (fine, lt-leb _ _ g)) (eqb-false 21 0 refl) in
         (q ∙ a .0, a .1)
 
-    pub latest-asks : Ti.Times s (c .tables .times) (c .tables .«time_count») (c .tables .«wide_times») × Readable s (chainOf s (c .start))
-    latest-asks = (times-there s f c (w .tables) asked-fine (w .followed h), chain-there s f c (w .tables) asked-fine (w .followed h))
+    module _ (room : c .facts .width ≤ length buffer) (o visited : ℕ) (found : (o ≡ latestAt s t (chainOf s (c .start))) × (visited ≡ visitedIn s t (chainOf s (c .start)))) where
+      at-change : o ≡ changeAt s (rootOf s f) t
+      at-change = change-is s f t c w h o visited found
 
-    module _ (room : c .facts .width ≤ length buffer) where
-      module _ (o visited : ℕ) (found : (o ≡ latestAt s t (chainOf s (c .start))) × (visited ≡ visitedIn s t (chainOf s (c .start)))) where
-        change-is : o ≡ changeAt s (rootOf s f) t
-        unfolding changeAt
-        change-is = found .0 ∙ rw (w .followed h .start)
+      value-is : (content : Content) → content ≡ contentAt s (rootOf s f) t → (v : Answer Shown) (after : List ℕ)
+          → v ≡ given (shown content) → after ≡ holdingBits content buffer
+          → (_≡_ {A = LookedUp} (record { value = v; visited = visited }) (valueAsked s f t (length buffer))) × (after ≡ valueBuffer s f t buffer)
+      unfolding valueRefusal valueAsked valueBuffer
+      value-is content ec v after ev ea =
+          let g : factsOf s f .width ≤ length buffer = rw (w .followed h .facts) at room in
+          (rw (fine, le-leb _ _ g, ev, ec, visited-is s f t c w h o visited found), ea ∙ rw (fine, le-leb _ _ g, ec))
 
-        visited-is : visited ≡ visitedAt s (rootOf s f) t
-        unfolding visitedAt
-        visited-is = found .1 ∙ rw (w .followed h .start)
+      pub value-start : o ≡ 0 → (v : Answer Shown) (after : List ℕ) → v ≡ given (shown (startContent (c .facts .kind) (c .facts .width) (c .tables .initial)))
+          → after ≡ holdingBits (startContent (c .facts .kind) (c .facts .width) (c .tables .initial)) buffer
+          → (_≡_ {A = LookedUp} (record { value = v; visited = visited }) (valueAsked s f t (length buffer))) × (after ≡ valueBuffer s f t buffer)
+      unfolding contentAt factsOf
+      value-start z v after ev ea =
+          let k = tables-are s f c (w .tables) fine (w .followed h) in
+          let a : startContent (c .facts .kind) (c .facts .width) (c .tables .initial) ≡ initialBy s (c .facts .kind) (c .facts .width) =
+          rw (k .initial) (start-is s (c .facts .kind) (c .facts .width)) in
+          let b : initialBy s (c .facts .kind) (c .facts .width) ≡ contentAt s (rootOf s f) t = rw (w .followed h .facts, ← at-change, z) in
+          value-is (startContent (c .facts .kind) (c .facts .width) (c .tables .initial)) (a ∙ b) v after ev ea
 
-        -- at most (T - C) / 2 fits 32 bits
-        pub visited-fits : visited < 4294967296
-        visited-fits =
-            let k = tables-are s f c (w .tables) asked-fine (w .followed h) in
-            omega (arith, visited-is, visited-most s f t asked-fine, k .end-high, k .end, k .long)
+      module _ (some : o ≡ 0 → ⊥) where
+        pub value-readies : Readies s (c .tables .end) (c .tables .order) (c .facts .kind) (c .facts .width) o (length buffer)
+        value-readies = readies s f c (w .tables) fine (w .followed h) o (length buffer) (latest-fine s f t c w h o visited found some) room
 
-        value-is : (content : Content) → content ≡ contentAt s (rootOf s f) t → (v : Answer Shown) (after : List ℕ)
-            → v ≡ given (shown content) → after ≡ holdingBits content buffer
+        pub value-given : (v : Answer Shown) (after : List ℕ) → v ≡ given (shown (contentBy s (c .facts .kind) (c .facts .width) o))
+            → after ≡ holdingBits (contentBy s (c .facts .kind) (c .facts .width) o) buffer
             → (_≡_ {A = LookedUp} (record { value = v; visited = visited }) (valueAsked s f t (length buffer))) × (after ≡ valueBuffer s f t buffer)
-        unfolding valueRefusal valueAsked valueBuffer
-        value-is content ec v after ev ea =
-            let g : factsOf s f .width ≤ length buffer = rw (w .followed h .facts) at room in
-            (rw (asked-fine, le-leb _ _ g, ev, ec, visited-is), ea ∙ rw (asked-fine, le-leb _ _ g, ec))
-
-        pub value-start : o ≡ 0 → (v : Answer Shown) (after : List ℕ) → v ≡ given (shown (startContent (c .facts .kind) (c .facts .width) (c .tables .initial)))
-            → after ≡ holdingBits (startContent (c .facts .kind) (c .facts .width) (c .tables .initial)) buffer
-            → (_≡_ {A = LookedUp} (record { value = v; visited = visited }) (valueAsked s f t (length buffer))) × (after ≡ valueBuffer s f t buffer)
-        unfolding contentAt factsOf
-        value-start z v after ev ea =
-            let k = tables-are s f c (w .tables) asked-fine (w .followed h) in
-            let a : startContent (c .facts .kind) (c .facts .width) (c .tables .initial) ≡ initialBy s (c .facts .kind) (c .facts .width) =
-            rw (k .initial) (start-is s (c .facts .kind) (c .facts .width)) in
-            let b : initialBy s (c .facts .kind) (c .facts .width) ≡ contentAt s (rootOf s f) t = rw (w .followed h .facts, ← change-is, z) in
-            value-is (startContent (c .facts .kind) (c .facts .width) (c .tables .initial)) (a ∙ b) v after ev ea
-
-        module _ (some : o ≡ 0 → ⊥) where
-          latest-fine : Sound s (signalBy s (c .facts)) o
-          unfolding faultFrom factsOf
-          latest-fine =
-              rw (found .0, w .followed h .facts)
-              (latest-change-sound s _ (c .start) (w .followed h .fault) t (λ z. some (found .0 ∙ z)))
-
-          pub value-readies : Readies s (c .tables .end) (c .tables .order) (c .facts .kind) (c .facts .width) o (length buffer)
-          value-readies = readies s f c (w .tables) asked-fine (w .followed h) o (length buffer) latest-fine room
-
-          pub value-given : (v : Answer Shown) (after : List ℕ) → v ≡ given (shown (contentBy s (c .facts .kind) (c .facts .width) o))
-              → after ≡ holdingBits (contentBy s (c .facts .kind) (c .facts .width) o) buffer
-              → (_≡_ {A = LookedUp} (record { value = v; visited = visited }) (valueAsked s f t (length buffer))) × (after ≡ valueBuffer s f t buffer)
-          unfolding contentAt
-          value-given v after ev ea =
-              value-is (contentBy s (c .facts .kind) (c .facts .width) o)
-              (content-is s f c (w .tables) asked-fine (w .followed h) o ∙ rw (← change-is) (sym (simp (ne-eqb o 0 some)))) v after ev ea
+        unfolding contentAt
+        value-given v after ev ea =
+            value-is (contentBy s (c .facts .kind) (c .facts .width) o)
+            (content-is s f c (w .tables) fine (w .followed h) o ∙ rw (← at-change) (sym (simp (ne-eqb o 0 some)))) v after ev ea

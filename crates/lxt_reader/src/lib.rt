@@ -3,6 +3,7 @@
 pub mod changes;
 pub mod facilities;
 pub mod names;
+pub mod texts;
 pub mod values;
 
 ghost use mathlib.Core.Path.{_≡_};

@@ -1,21 +1,13 @@
--- The changes of a chain without a fault: each is sound, and so is the latest at a time.
-use Prim.Native.Nat.{ℕ, _≤_, max}
-use mathlib.Core.Path.{_≡_, refl, _∙_}
-use mathlib.Core.Bool.{true, false≢true}
+-- The changes of a chain without a fault can be read.
+use Prim.Native.Nat.{ℕ, _≤_}
+use mathlib.Core.Path.{_≡_}
 use mathlib.Core.List.{List, [], _∷_, map}
 use lib.ListN.{length}
-use lib.IntN.{ℤ}
-use lib.Signed.{leZ}
-use lib.Dec.{eqb}
 use native.Mathlib.Omega.{arith}
-use native.Mathlib.Decide.{decLe}
-use borrow.Author.Tests.{eqb-true}
-use Rattle.lxt_format.specs.Basics.{any, firstFault}
-use Rattle.lxt_format.specs.BasicsLaws.{on-test, or-either, neither}
-use Rattle.lxt_format.specs.Times.{timeOf}
+use Rattle.lxt_format.specs.Basics.{firstFault}
+use Rattle.lxt_format.specs.BasicsLaws.{neither}
 use Rattle.lxt_format.specs.Changes.{Signal, changeEnd, faultAt, chainOf, chainFault}
-use Rattle.lxt_format.specs.ChangesLaws.{Sound, sound}
-use Rattle.lxt_format.specs.Values.{latestAt}
+use Rattle.lxt_format.specs.ChangesLaws.{sound}
 use Rattle.lxt_values.specs.Times.{Readable, no-change, change}
 
 module _ (s : List ℕ) (g : Signal) where
@@ -30,43 +22,7 @@ module _ (s : List ℕ) (g : Signal) where
       let e = k .ends in
       change {o = o} (omega arith) (omega arith) (sound-readable os t (both .1))
 
-  -- each of them has no fault
-  member-sound : (os : List ℕ) (o : ℕ) → firstFault (map (faultAt s g) os) ≡ 0 → any (eqb o) os ≡ true → faultAt s g o ≡ 0
-  unfolding firstFault any
-  member-sound [] o h e = absurd (false≢true e)
-  member-sound (x ∷ os) o h e =
-      let both = neither (faultAt s g x) (firstFault (map (faultAt s g) os)) h in
-      let rest : any (eqb o) os ≡ true → faultAt s g o ≡ 0 = λ k. member-sound os o (both .1) k in
-      or-either (eqb o x) (any (eqb o) os) e (λ q. rw (eqb-true o x q) (both .0)) rest
-
-  -- and so has the latest of them
-  latest-sound : (t : ℤ) (os : List ℕ) → firstFault (map (faultAt s g) os) ≡ 0 → (latestAt s t os ≡ 0 → ⊥) → faultAt s g (latestAt s t os) ≡ 0
-  unfolding firstFault latestAt
-  latest-sound t [] h n = absurd (n refl)
-  latest-sound t (o ∷ os) h n =
-      let both = neither (faultAt s g o) (firstFault (map (faultAt s g) os)) h in
-      let rest : (latestAt s t os ≡ 0 → ⊥) → faultAt s g (latestAt s t os) ≡ 0 = λ k. latest-sound t os (both .1) k in
-      on-test (leZ (timeOf s o) t)
-      (λ q. elim (decLe o (latestAt s t os)) [
-        | yes l ↦ (let e : max o (latestAt s t os) ≡ latestAt s t os = omega arith in
-            let m : max o (latestAt s t os) ≡ 0 → ⊥ = rw q at n in
-            rw (q, e) (rest (λ z. m (e ∙ z))))
-        | no l ↦ (let e : max o (latestAt s t os) ≡ o = omega arith in rw (q, e) (both .0))
-      ])
-      (λ q. rw q (rest (rw q at n)))
-
-  module _ (from : ℕ) (h : chainFault s g from ≡ 0) where
-    -- a chain without a fault is readable
-    pub chain-readable : g .end ≤ length s → Readable s (chainOf s from)
-    unfolding chainFault
-    chain-readable t = sound-readable (chainOf s from) t h
-
-    -- a change on it is sound
-    pub change-sound : (o : ℕ) → any (eqb o) (chainOf s from) ≡ true → Sound s g o
-    unfolding chainFault
-    change-sound o e = sound s g o (member-sound (chainOf s from) o h e)
-
-    -- and so is its latest at a time, where there is one
-    pub latest-change-sound : (t : ℤ) → (latestAt s t (chainOf s from) ≡ 0 → ⊥) → Sound s g (latestAt s t (chainOf s from))
-    unfolding chainFault
-    latest-change-sound t n = sound s g (latestAt s t (chainOf s from)) (latest-sound t (chainOf s from) h n)
+  -- and so is a chain
+  pub chain-readable : (from : ℕ) → chainFault s g from ≡ 0 → g .end ≤ length s → Readable s (chainOf s from)
+  unfolding chainFault
+  chain-readable from h t = sound-readable (chainOf s from) t h

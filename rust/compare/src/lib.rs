@@ -61,8 +61,8 @@ pub const MADE: [Making; 4] = [
     ("aliases", lxt_generate::aliases),
 ];
 
-/// The eleven calls.
-pub const CALLS: [&str; 11] = [
+/// The twelve calls.
+pub const CALLS: [&str; 12] = [
     "judge",
     "stray",
     "facts",
@@ -71,6 +71,7 @@ pub const CALLS: [&str; 11] = [
     "change_before",
     "change",
     "value_at",
+    "text_at",
     "start",
     "carry on",
     "write",
@@ -87,7 +88,7 @@ pub fn can_refuse(call: &str, number: u8) -> bool {
     };
     let question: &[u8] = match call {
         "judge" | "stray" => &[],
-        "facts" | "root" => &[18],
+        "facts" | "root" | "text_at" => &[18],
         "name" | "value_at" => &[18, 21],
         "change_before" => &[18, 19],
         "change" => &[18, 19, 21],
@@ -203,6 +204,22 @@ impl Compared {
             ("values without changes to visit", none),
             ("values with one change visited", one),
             ("values with several visited, the last answered", several),
+        ]
+    }
+
+    /// How many texts at a time were met by the answer.
+    pub fn texts(&self) -> [(&'static str, u64); 8] {
+        let [file, empty, before, unchanged, empty_lent, in_file, driven, undriven] =
+            self.questions.texts();
+        [
+            ("texts of the file", file),
+            ("texts of the file, empty", empty),
+            ("lent texts before later changes", before),
+            ("lent texts of facilities without changes", unchanged),
+            ("lent texts, empty", empty_lent),
+            ("lent texts that lie in the file", in_file),
+            ("texts asked of another kind, driven", driven),
+            ("texts asked of another kind, not driven", undriven),
         ]
     }
 

@@ -4,22 +4,27 @@
 use std::collections::{BTreeMap, BTreeSet};
 use std::fmt::Debug;
 
-use lxt::Refusal;
-use lxt_reference::Judged;
+use lxt::{Refusal, TextAt};
+use lxt_generate::Random;
+use lxt_reference::{Judged, Which};
 
 use crate::times::Entries;
 
 /// Bytes on either side of a lent part, which nothing may write.
 const AROUND: usize = 8;
 
-pub const QUESTIONS: [&str; 6] = [
+pub const QUESTIONS: [&str; 7] = [
     "facts",
     "root",
     "name",
     "change_before",
     "change",
     "value_at",
+    "text_at",
 ];
+
+/// Texts that are lent as a default.
+const TEXTS: [&[u8]; 3] = [b"", b"none", b"\0two\0\0"];
 
 /// Rooms for a name: one less than needed, exactly that, more, and none.
 const NAME_ROOMS: [usize; 4] = [1_022, 1_023, 1_032, 0];
@@ -87,6 +92,33 @@ fn sort_of_change(read: &lxt_reference::Changed) -> &'static str {
     }
 }
 
+/// Where a part starts in a slice that it is to be a part of, by the addresses: that of a copy is none.
+fn start_in(whole: &[u8], part: &[u8]) -> usize {
+    (part.as_ptr() as usize).wrapping_sub(whole.as_ptr() as usize)
+}
+
+/// The proved text at a time as the independent reader has it, with where its part lies.
+fn plain_text(answer: TextAt, file: &[u8], text: &[u8]) -> lxt_reference::TextAt {
+    let (which, start) = match answer {
+        TextAt::File(part) => (Which::File, start_in(file, part)),
+        TextAt::Lent(part) => (Which::Lent, start_in(text, part)),
+        TextAt::OtherKind => (Which::OtherKind, 0),
+    };
+    lxt_reference::TextAt {
+        which,
+        start,
+        length: answer.bytes().len(),
+    }
+}
+
+fn sort_of_text(answer: &lxt_reference::TextAt) -> &'static str {
+    match answer.which {
+        Which::File => "file",
+        Which::Lent => "lent",
+        Which::OtherKind => "other kind",
+    }
+}
+
 /// What was compared.
 #[derive(Default)]
 pub struct Seen {
@@ -98,6 +130,8 @@ pub struct Seen {
     outside: [u64; 5],
     /// The values by the changes visited, as `visited` gives them.
     visited: [u64; 4],
+    /// The texts by whose they are, as `texts` gives them.
+    texts: [u64; 8],
 }
 
 impl Seen {
@@ -149,14 +183,21 @@ impl Seen {
         self.visited
     }
 
+    /// How many texts were asked for, by the answer: parts of the file that are not empty, and that are; lent texts
+    /// before later changes, of roots without changes, that are empty, and that lie in the file; other kinds that
+    /// are driven, and that are not.
+    pub fn texts(&self) -> [u64; 8] {
+        self.texts
+    }
+
     pub fn report(&self, what: &str) {
         let total: u64 = self.asked.values().sum();
         let [after, before, between] = self.shared;
         println!("{what}: {total} questions {:?}", self.asked);
         println!("  by the last of several entries {after}, by entry 0 of several {before}");
         println!(
-            "  between their times {between}, outside 32 bits {:?}, visited {:?}",
-            self.outside, self.visited
+            "  between their times {between}, outside 32 bits {:?}, visited {:?}, texts {:?}",
+            self.outside, self.visited, self.texts
         );
     }
 }
@@ -179,6 +220,8 @@ struct Asked<'a> {
     long_times: bool,
     /// Of the facility that is asked about.
     own: Own,
+    /// Draws the texts that are lent.
+    random: Random,
     what: &'a str,
     seen: &'a mut Seen,
 }
@@ -194,6 +237,7 @@ impl<'a> Asked<'a> {
             entries,
             long_times,
             own: Own::default(),
+            random: Random::new(file.len() as u64),
             what,
             seen,
         }
@@ -290,6 +334,64 @@ impl<'a> Asked<'a> {
         if let Ok(lookup) = expected {
             self.count_outside(time);
             self.count_visited(time, lookup.visited as usize);
+        }
+    }
+
+    /// Asks with one of the texts or with a part of the file as the default.
+    fn text_at(&mut self, facility: u32, time: i64) {
+        let drawn = self.random.below(TEXTS.len() + 1);
+        match TEXTS.get(drawn) {
+            Some(text) => {
+                let mut buffer = marked(text.len());
+                lent(&mut buffer).copy_from_slice(text);
+                let text = &buffer[AROUND..AROUND + text.len()];
+                self.text_with(facility, time, text, &buffer);
+            }
+            None => {
+                let third = self.file.len() / 3;
+                let text = &self.file[third..][..third.min(64)];
+                self.text_with(facility, time, text, text);
+            }
+        }
+    }
+
+    /// Asks with a text that lies in the file or in a buffer, of which no byte changes.
+    fn text_with(&mut self, facility: u32, time: i64, text: &[u8], buffer: &[u8]) {
+        let before = buffer.to_vec();
+        let proved = lxt::text_at(self.file, facility, time, text);
+        let proved = proved.map(|answer| plain_text(answer, self.file, text));
+        let expected = self.expect(|judged| judged.text_at(facility, time, text));
+        self.same(
+            ("text_at", &[facility.into(), time, text.len() as i64]),
+            sort_of_text,
+            (proved, buffer),
+            (expected, &before),
+        );
+        if let Ok(answer) = expected {
+            self.count_text(time, answer, std::ptr::eq(text, buffer));
+        }
+    }
+
+    /// Counts an answered text: of the file exactly where a change of a text is answered.
+    fn count_text(&mut self, time: i64, answer: lxt_reference::TextAt, in_file: bool) {
+        let Own { count, first, .. } = self.own;
+        let driven = first.is_some_and(|first| first <= time);
+        let [file, lent, other] =
+            [Which::File, Which::Lent, Which::OtherKind].map(|it| it == answer.which);
+        assert!(other || file == driven, "{}", self.what);
+        let empty = answer.length == 0;
+        let met = [
+            file && !empty,
+            file && empty,
+            lent && count > 0,
+            lent && count == 0,
+            lent && empty,
+            lent && in_file,
+            other && driven,
+            other && !driven,
+        ];
+        for (count, met) in self.seen.texts.iter_mut().zip(met) {
+            *count += u64::from(met);
         }
     }
 
@@ -391,6 +493,7 @@ impl<'a> Asked<'a> {
             for &room in rooms {
                 self.value_at(facility, time, room);
             }
+            self.text_at(facility, time);
         }
     }
 }

@@ -119,8 +119,8 @@ fn shows(file: &[u8], value: reader::Value, lent: &[u8], meant: &Meant) -> bool 
     }
 }
 
-/// The value at a time is that of the change of highest offset with time <= t. Visited are this one and the
-/// root's changes after t.
+/// The value at a time is that of the change of highest offset with time <= t, and so is the text. Visited are this
+/// one and the root's changes after t.
 fn values_at_times(draft: &Draft, bytes: &[u8], judged: &reader::Judged) {
     let mut random = Random::new(draft.end() as u64);
     for (number, facility) in draft.facilities.iter().enumerate().take(8) {
@@ -141,6 +141,8 @@ fn values_at_times(draft: &Draft, bytes: &[u8], judged: &reader::Judged) {
             let later = own.iter().filter(|change| change.time > time).count();
             let answered = usize::from(expected.is_some());
             assert_eq!(visited as usize, later + answered);
+            let text = judged.text_at(number as u32, time, b"none");
+            assert_eq!(text, Ok(text_meant(facility, expected.copied())));
             match expected {
                 Some(change) => assert!(shows(bytes, value, &lent, &change.value)),
                 None => match facility.kind {
@@ -153,6 +155,24 @@ fn values_at_times(draft: &Draft, bytes: &[u8], judged: &reader::Judged) {
                 },
             }
         }
+    }
+}
+
+/// The text of a facility where a lent one of four bytes is the default: that of the change answered, if any.
+fn text_meant(facility: &Facility, answered: Option<&Change>) -> reader::TextAt {
+    let (which, start, length) = match (facility.kind, answered) {
+        (Kind::Text, Some(change)) => (
+            reader::Which::File,
+            change.data,
+            change.end - change.data - 1,
+        ),
+        (Kind::Text, None) => (reader::Which::Lent, 0, 4),
+        _ => (reader::Which::OtherKind, 0, 0),
+    };
+    reader::TextAt {
+        which,
+        start,
+        length,
     }
 }
 

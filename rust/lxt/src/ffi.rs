@@ -54,6 +54,14 @@ pub(crate) mod c {
 
     #[repr(C)]
     #[derive(Clone, Copy, Debug, Default, PartialEq, Eq)]
+    pub struct Part {
+        pub from: u64,
+        pub start: u64,
+        pub length: u64,
+    }
+
+    #[repr(C)]
+    #[derive(Clone, Copy, Debug, Default, PartialEq, Eq)]
     pub struct Handed {
         pub count: u32,
         pub done: u32,
@@ -92,6 +100,15 @@ pub(crate) mod c {
             room: usize,
             value: *mut Value,
             visited: *mut u32,
+        ) -> u32;
+        pub fn lxt_text_at(
+            file: *const u8,
+            length: usize,
+            facility: u32,
+            time: i64,
+            text: *const u8,
+            text_length: usize,
+            part: *mut Part,
         ) -> u32;
         pub fn lxt_facts(
             file: *const u8,
@@ -226,6 +243,29 @@ pub(crate) fn value_at(
             bits.len(),
             value as *mut c::Value,
             visited as *mut u32,
+        )
+    }
+}
+
+/// The text at a time, as a part of the file or of the lent text; 0 or the refusal's number.
+pub(crate) fn text_at(
+    file: &[u8],
+    facility: u32,
+    time: i64,
+    text: &[u8],
+    part: &mut c::Part,
+) -> u32 {
+    // SAFETY: the pointers and lengths of both slices are their own, the struct has the layout of C's,
+    // and the `&mut` is not aliased.
+    unsafe {
+        c::lxt_text_at(
+            file.as_ptr(),
+            file.len(),
+            facility,
+            time,
+            text.as_ptr(),
+            text.len(),
+            part as *mut c::Part,
         )
     }
 }

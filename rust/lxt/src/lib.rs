@@ -24,11 +24,12 @@
 //! ```
 //!
 //! Under it stand the functions of the C interface with slices for pointers: [`judge`], [`stray_bytes`],
-//! [`facts`], [`root`], [`name`], [`change_before`], [`change`], [`value_at`], [`start_walk`], [`carry_on`] and
-//! [`write`](fn@write). They take any bytes, keep nothing between calls and allocate nothing. Each that reads judges the
-//! file anew, whatever was asked before; only `carry_on` checks less of it, its tables and the changes that are still to come. So many
-//! questions on one large file cost many times its judging, as docs/PERFORMANCE.md has it in figures: to
-//! read all changes of a large trace, walk, and do not ask for each of them.
+//! [`facts`], [`root`], [`name`], [`change_before`], [`change`], [`value_at`], [`text_at`], [`start_walk`],
+//! [`carry_on`] and [`write`](fn@write). They take any bytes, keep nothing between calls and allocate nothing.
+//! Each that reads judges the file anew, whatever was asked before; only `carry_on` checks less of it, its
+//! tables and the changes that are still to come. So many questions on one large file cost many times its
+//! judging, as docs/PERFORMANCE.md has it in figures: to read all changes of a large trace, walk, and do not ask
+//! for each of them.
 //!
 //! All changes of a trace by these functions. A call of a walk reads again what is still to come, so
 //! the output has room for many:
@@ -121,7 +122,7 @@ pub enum Value {
     Real { number: f64, bits: u64 },
     /// A text, which stands in the file from `start` on, without its zero.
     Text { start: u32, length: u32 },
-    /// A real or a text that has no change up to the time.
+    /// A real or a text that has no change up to the time. In place of such a text, [`text_at`] answers a lent one.
     NotDriven,
 }
 
@@ -165,6 +166,76 @@ impl Value {
                 length: value.length as u32,
             },
             _ => Value::NotDriven,
+        }
+    }
+}
+
+/// What the text at a time answers: a part of the file, or the lent text.
+///
+/// An empty part does not say which of the two it is, since a text of the file may be empty and the lent one too;
+/// the case says it.
+///
+/// The two lifetimes are apart. A part of the file can be kept when the [`Trace`] and the lent text are gone:
+///
+/// ```
+/// use lxt::{Kind, NewValue, TextAt, Trace, Writer};
+///
+/// fn main() -> Result<(), Box<dyn std::error::Error>> {
+///     let mut writer = Writer::new(-9, 3)?;
+///     let state = writer.facility(b"state", Kind::Text, 0, 0)?;
+///     writer.change(state, 5, NewValue::Text(b"busy"))?;
+///     let file = writer.write()?;
+///     let kept = {
+///         let trace = Trace::open(&file)?;
+///         let default = String::from("idle");
+///         match trace.text_at(state, 5, default.as_bytes())? {
+///             TextAt::File(text) => Some(text),
+///             _ => None,
+///         }
+///     };
+///     assert_eq!(kept, Some(&b"busy"[..]));
+///     Ok(())
+/// }
+/// ```
+///
+/// The lent text cannot, which is the answer at a time before that change:
+///
+/// ```compile_fail,E0597
+/// use lxt::{Kind, NewValue, TextAt, Trace, Writer};
+///
+/// fn main() -> Result<(), Box<dyn std::error::Error>> {
+///     let mut writer = Writer::new(-9, 3)?;
+///     let state = writer.facility(b"state", Kind::Text, 0, 0)?;
+///     writer.change(state, 5, NewValue::Text(b"busy"))?;
+///     let file = writer.write()?;
+///     let kept = {
+///         let trace = Trace::open(&file)?;
+///         let default = String::from("idle");
+///         match trace.text_at(state, 4, default.as_bytes())? {
+///             TextAt::Lent(text) => Some(text),
+///             _ => None,
+///         }
+///     };
+///     assert_eq!(kept, Some(&b"idle"[..]));
+///     Ok(())
+/// }
+/// ```
+#[derive(Clone, Copy, Debug, PartialEq, Eq)]
+pub enum TextAt<'f, 't> {
+    /// The text of the latest change up to the time: a part of the file, without its zero. It may be empty.
+    File(&'f [u8]),
+    /// No change up to the time: the whole lent text.
+    Lent(&'t [u8]),
+    /// The facility's values are no texts.
+    OtherKind,
+}
+
+impl<'a> TextAt<'a, 'a> {
+    /// The part, of the file or of the lent text; empty of another kind.
+    pub fn bytes(self) -> &'a [u8] {
+        match self {
+            TextAt::File(text) | TextAt::Lent(text) => text,
+            TextAt::OtherKind => &[],
         }
     }
 }
@@ -313,6 +384,29 @@ pub fn value_at(
     Ok(Lookup {
         value: Value::of(value),
         visited,
+    })
+}
+
+/// The text of a facility at a time, which may be any: that of the latest change up to it, as a part of the file.
+/// Where there is none, whether there are later changes or none at all, it is the whole `text`, of any bytes and
+/// length. Facilities of bits, integers and reals are [of another kind](TextAt::OtherKind), driven or not.
+///
+/// An alias is asked as its root. Nothing is copied, and `text` is not read. After the file's refusals there is
+/// [`Refusal::NoFacility`] alone. Where this answers the lent text, [`value_at`] answers
+/// [`NotDriven`](Value::NotDriven).
+pub fn text_at<'f, 't>(
+    file: &'f [u8],
+    facility: u32,
+    time: i64,
+    text: &'t [u8],
+) -> Result<TextAt<'f, 't>, Refusal> {
+    let mut part = c::Part::default();
+    accepted(ffi::text_at(file, facility, time, text, &mut part))?;
+    let (start, length) = (part.start as usize, part.length as usize);
+    Ok(match part.from {
+        0 => TextAt::File(&file[start..][..length]),
+        1 => TextAt::Lent(&text[start..][..length]),
+        _ => TextAt::OtherKind,
     })
 }
 

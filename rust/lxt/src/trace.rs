@@ -4,7 +4,7 @@ use std::fmt;
 use std::iter::FusedIterator;
 use std::ops::Range;
 
-use crate::{Changed, Facts, Lookup, Pair, Refusal, Summary, Value, NAME_ROOM, WIDEST};
+use crate::{Changed, Facts, Lookup, Pair, Refusal, Summary, TextAt, Value, NAME_ROOM, WIDEST};
 
 /// An accepted trace in lent bytes.
 ///
@@ -55,7 +55,8 @@ pub enum Reading<'a> {
     Real(f64),
     /// The bytes of a text in the file, without its zero.
     Text(&'a [u8]),
-    /// A real or a text that has no change up to the time.
+    /// A real or a text that has no change up to the time. In place of such a text, [`Trace::text_at`] answers a
+    /// lent one.
     NotDriven,
 }
 
@@ -203,6 +204,36 @@ impl<'a> Trace<'a> {
         bits: &mut [u8],
     ) -> Result<Lookup<Value>, Refusal> {
         crate::value_at(self.bytes, facility, time, bits)
+    }
+
+    /// The text of a facility at a time: that of the latest change up to it, a part of the file; else the whole
+    /// `text`, in place of [`NotDriven`](Reading::NotDriven). Facilities that are no texts are
+    /// [of another kind](TextAt::OtherKind), driven or not.
+    ///
+    /// ```
+    /// use lxt::{TextAt, Trace};
+    ///
+    /// fn main() -> Result<(), Box<dyn std::error::Error>> {
+    ///     let bytes = std::fs::read("../../traces/strings.gtkwave-export.unz.lxt")?;
+    ///     let trace = Trace::open(&bytes)?;
+    ///     // Facility 2 is a text: `hello` from the time 0 on.
+    ///     assert_eq!(trace.text_at(2, -1, b"none")?, TextAt::Lent(b"none"));
+    ///     assert_eq!(trace.text_at(2, 0, b"none")?, TextAt::File(b"hello"));
+    ///     // At 9 it becomes empty, which is not the same as not driven.
+    ///     assert_eq!(trace.text_at(2, 9, b"none")?, TextAt::File(b""));
+    ///     // Facility 0 is a bit.
+    ///     assert_eq!(trace.text_at(0, 0, b"none")?, TextAt::OtherKind);
+    ///     println!("{}", trace.text_at(2, 0, b"none")?.bytes().escape_ascii());
+    ///     Ok(())
+    /// }
+    /// ```
+    pub fn text_at<'t>(
+        &self,
+        facility: u32,
+        time: i64,
+        text: &'t [u8],
+    ) -> Result<TextAt<'a, 't>, Refusal> {
+        crate::text_at(self.bytes, facility, time, text)
     }
 
     fn reading(&self, value: Value, bits: &[u8]) -> Reading<'a> {

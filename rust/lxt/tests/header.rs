@@ -10,7 +10,7 @@ use lxt_compare::judge::TRACE;
 use lxt_compare::times::small_trace_09;
 use lxt_compare::traces;
 use lxt_compare::write::examples;
-use lxt_reference::{Judged, Value};
+use lxt_reference::{Judged, TextAt, Value, Which};
 
 mod mixed;
 #[allow(dead_code)]
@@ -34,6 +34,15 @@ fn example(header: &str) -> String {
     }
     assert!(code.contains("lxt_start_walk") && code.contains("lxt_carry_on"));
     code
+}
+
+/// Where the bytes of a part are, as the header says it.
+fn pointer(header: &str) -> &str {
+    let mut lines = header
+        .lines()
+        .filter_map(|line| line.strip_prefix(" *     "));
+    let line = lines.find(|line| line.contains("part.start"));
+    line.expect("the line of the pointer")
 }
 
 /// Every question on each facility and its newest changes, then the header's walk, a line for each answer.
@@ -72,6 +81,19 @@ static void show(const lxt_value *value) {
     printf(" %llu\n", (unsigned long long)value->length);
 }
 
+/* Which text it is, its start and length, and its bytes. */
+static void show_text(const uint8_t *file, const uint8_t *text, lxt_part part) {
+    const uint8_t *at = POINTER;
+    uint64_t i;
+    switch (part.from) {
+    case LXT_FROM_FILE: printf(" file"); break;
+    case LXT_FROM_LENT: printf(" lent"); break;
+    case LXT_OTHER_KIND: printf(" other"); break;
+    }
+    printf(":%llu:%llu:", (unsigned long long)part.start, (unsigned long long)part.length);
+    for (i = 0; i < part.length; i++) printf("%02x", at[i]);
+}
+
 static const char *kind(uint32_t kind) {
     switch (kind) {
     case LXT_BITS: return "bits";
@@ -102,15 +124,19 @@ int main(int count, char **words) {
     if (lxt_stray(file, length, &stray) == LXT_ACCEPTED) printf("stray %lu\n", (unsigned long)stray);
     for (f = 0; f <= n && f < 40; f++) {
         static const int64_t times[] = {50, -1, 0, INT64_MIN, 4294967296, INT64_MAX};
+        static const uint8_t text[] = {'n', 0, 'n', 'e'};
         uint32_t root, size, before, clean, visited, offset, count = 0;
         int64_t time;
         lxt_facility facts;
         lxt_value value;
+        lxt_part part = {7, 8, 9};
         int32_t msb, lsb;
         lxt_pair pair[LXT_MOST_FACILITIES];
         uint8_t asked[LXT_MOST_FACILITIES] = {0};
         if (lxt_facts(file, length, f, &facts, &msb, &lsb) == LXT_REFUSED_NO_FACILITY) {
-            printf("%lu refused\n", (unsigned long)f);
+            printf("%lu refused", (unsigned long)f);
+            if (lxt_text_at(file, length, f, 0, text, sizeof text, &part) == LXT_REFUSED_NO_FACILITY)
+                printf(" %d%d%d\n", (int)part.from, (int)part.start, (int)part.length);
             continue;
         }
         lxt_root(file, length, f, &root);
@@ -131,11 +157,40 @@ int main(int count, char **words) {
             printf("%lu ", (unsigned long)visited);
             show(&value);
         }
+        printf("texts");
+        for (count = 0; count < sizeof times / sizeof times[0]; count++) {
+            lxt_text_at(file, length, f, times[count], text, sizeof text, &part);
+            show_text(file, text, part);
+        }
+        printf("\n");
     }
     walk(file, length, n);
     return 0;
 }
 "#;
+
+/// The times that the program asks about, and the text that it lends.
+const TIMES: [i64; 6] = [50, -1, 0, i64::MIN, 0x1_0000_0000, i64::MAX];
+const TEXT: &[u8] = b"n\0ne";
+
+/// The line of the texts at these times.
+fn texts_line(texts: [impl AsRef<str>; 6]) -> String {
+    let texts = texts.each_ref().map(|it| it.as_ref());
+    format!("texts {}\n", texts.join(" "))
+}
+
+/// The independent reader's text at a time.
+fn shown(file: &[u8], text: TextAt) -> String {
+    let (which, whole) = match text.which {
+        Which::File => ("file", file),
+        Which::Lent => ("lent", TEXT),
+        Which::OtherKind => ("other", TEXT),
+    };
+    let TextAt { start, length, .. } = text;
+    let bytes = whole[start..][..length].iter();
+    let digits = String::from_iter(bytes.map(|byte| format!("{byte:02x}")));
+    format!("{which}:{start}:{length}:{digits}")
+}
 
 fn show(out: &mut String, value: Value, bits: &[u8]) {
     let line = match value {
@@ -164,7 +219,7 @@ fn expected(file: &[u8]) -> String {
     out += &format!("{}\nstray {}\n", it.timescale, judged.stray_bytes());
     for facility in (0..=n).take(40) {
         let Ok(facts) = judged.facts(facility) else {
-            out += &format!("{facility} refused\n");
+            out += &format!("{facility} refused 789\n");
             continue;
         };
         let root = judged.root(facility).expect("a root");
@@ -179,12 +234,14 @@ fn expected(file: &[u8]) -> String {
             out += &format!("{before} {} {} ", read.time, u32::from(read.clean));
             show(&mut out, read.value, &bits);
         }
-        for time in [50, -1, 0, i64::MIN, 0x1_0000_0000, i64::MAX] {
+        for time in TIMES {
             let lookup = judged.value_at(facility, time, &mut bits);
             let lookup = lookup.expect("a value");
             out += &format!("{} ", lookup.visited);
             show(&mut out, lookup.value, &bits);
         }
+        let texts = TIMES.map(|time| judged.text_at(facility, time, TEXT));
+        out += &texts_line(texts.map(|it| shown(file, it.expect("an answer"))));
     }
     for (root, offset) in judged.full_list(&vec![1; n as usize]).expect("a list") {
         out += &format!("{root} {offset}\n");
@@ -232,6 +289,7 @@ fn made(name: &str, compiler: &str, standard: &str, code: &str) -> PathBuf {
 fn a_c_program_answers_as_the_independent_reader() {
     let header = include_str!("../../../include/lxt.h");
     let code = PROGRAM.replace("EXAMPLE\n", &example(header));
+    let code = code.replace("POINTER", pointer(header));
     let program = made("header", "cc", "-std=c99", &code);
     let mut compared = 0;
     for (name, file) in traces(100_000) {
@@ -259,11 +317,10 @@ fn a_c_program_answers_as_the_independent_reader() {
 /// Files and the lines of the program, worked out by hand.
 fn by_hand() -> [(&'static str, Vec<u8>, String); 5] {
     // The values at 50, -1, 0, the least number, 2^32 and the greatest number: the number of changes visited, and
-    // the symbols.
+    // the symbols. They are no texts.
     let values = |lookups: [(u32, &str); 6]| {
-        lookups
-            .map(|(visited, it)| format!("{visited} bits {} {it} 0\n", it.len()))
-            .concat()
+        let lines = lookups.map(|(visited, it)| format!("{visited} bits {} {it} 0\n", it.len()));
+        lines.concat() + &texts_line(["other:0:0:"; 6])
     };
     let newest = |symbols: &'static str| {
         let (before, last) = ((2, "XXX"), (1, symbols));
@@ -278,14 +335,14 @@ fn by_hand() -> [(&'static str, Vec<u8>, String); 5] {
         &newest("01Z"),
         "3 bits 2 0 2 four\n10 7 1 bits 3 -LW 0\n0 3 0 bits 3 01Z 0\n",
         &newest("-LW"),
-        "3 refused\n2 20\n1 17\n0 14\n2 10\n1 7\n0 4\nwalked 0\n",
+        "3 refused 789\n2 20\n1 17\n0 14\n2 10\n1 7\n0 4\nwalked 0\n",
     ];
     // 64-bit times: -5 and 5, and the least number and -1.
     let small = |times: [&str; 2], lookups| {
         let [newer, older] = times;
         let changes = format!("4 {newer} 1 bits 1 0 0\n0 {older} 1 bits 1 1 0\n");
         let head = "1 4 84 X 1 -9\nstray 0\n1 bits 0 0 0 a\n";
-        let tail = "1 refused\n0 6\n0 4\nwalked 0\n";
+        let tail = "1 refused 789\n0 6\n0 4\nwalked 0\n";
         format!("{head}{changes}{}{tail}", values(lookups))
     };
     let (least, most) = (i64::MIN, i64::MAX);
@@ -295,7 +352,7 @@ fn by_hand() -> [(&'static str, Vec<u8>, String); 5] {
     let stray = [
         "1 4 68 X 1 -9\nstray 2\n1 bits 0 0 0 a\n0 5 1 bits 1 0 0\n",
         &values([(1, "0"), (1, "X"), (1, "X"), (1, "X"), (1, "0"), (1, "0")]),
-        "1 refused\n0 6\nwalked 0\n",
+        "1 refused 789\n0 6\nwalked 0\n",
     ];
     [
         ("mixed", mixed::file(), mixed_lines()),
@@ -323,13 +380,14 @@ fn by_hand() -> [(&'static str, Vec<u8>, String); 5] {
 /// Those of the trace with every kind, an alias and a facility without changes.
 fn mixed_lines() -> String {
     // At 50, then three times before all changes, then twice after them.
-    let values = |last: &str, before: &str| {
-        let (last, before) = (format!("{last}\n"), format!("{before}\n"));
-        last.clone() + &before.repeat(3) + &last.repeat(2)
-    };
+    let six =
+        |last: &str, before: &str| [last, before, before, before, last, last].map(String::from);
+    let values = |last: &str, before: &str| six(last, before).map(|it| it + "\n").concat();
+    let no_texts = texts_line(["other:0:0:"; 6]);
     let bits = [
         "4 30 1 bits 3 ZX1 0\n0 10 1 bits 3 011 0\n",
         &values("1 bits 3 ZX1 0", "2 bits 3 ZZZ 0"),
+        &no_texts,
     ];
     let bits = bits.concat();
     let real = "real 4609434218613702656 0";
@@ -339,12 +397,15 @@ fn mixed_lines() -> String {
         &format!("3 bits 2 0 0 a\n{bits}"),
         &format!("0 real 0 0 1 r\n0 20 1 {real}\n"),
         &values(&format!("1 {real}"), "1 not driven 0 0"),
+        &no_texts,
         "0 text 0 0 2 s\n0 20 1 text 9 2\n",
         &values("1 text 9 2", "1 not driven 0 0"),
+        &texts_line(six("file:9:2:6869", "lent:0:4:6e006e65")),
         &format!("3 bits 2 0 0 b\n{bits}"),
         "32 integer 31 0 4 i\n",
         &values(&unchanged, &unchanged),
-        "5 refused\n0 22\n1 12\n2 7\n0 4\nwalked 0\n",
+        &no_texts,
+        "5 refused 789\n0 22\n1 12\n2 7\n0 4\nwalked 0\n",
     ];
     lines.concat()
 }
@@ -373,6 +434,11 @@ ASSERT(sizeof(lxt_value) == 3 * sizeof(uint64_t));
 FIELD(lxt_value, what, 0, 8);
 FIELD(lxt_value, number, 8, 8);
 FIELD(lxt_value, length, 16, 8);
+ASSERT(sizeof(lxt_part) == 3 * sizeof(uint64_t));
+FIELD(lxt_part, from, 0, 8);
+FIELD(lxt_part, start, 8, 8);
+FIELD(lxt_part, length, 16, 8);
+ASSERT(LXT_FROM_FILE == 0 && LXT_FROM_LENT == 1 && LXT_OTHER_KIND == 2);
 ASSERT(sizeof(lxt_handed) == 2 * sizeof(uint32_t));
 FIELD(lxt_handed, count, 0, 4);
 FIELD(lxt_handed, done, 4, 4);
@@ -400,6 +466,8 @@ uint32_t (*const change)(const uint8_t *, size_t, uint32_t, uint32_t, uint8_t *,
                          uint32_t *) = lxt_change;
 uint32_t (*const value_at)(const uint8_t *, size_t, uint32_t, int64_t, uint8_t *, size_t, lxt_value *,
                            uint32_t *) = lxt_value_at;
+uint32_t (*const text_at)(const uint8_t *, size_t, uint32_t, int64_t, const uint8_t *, size_t,
+                          lxt_part *) = lxt_text_at;
 uint32_t (*const write)(const lxt_new_facility *, size_t, const uint8_t *, size_t, const lxt_new_change *, size_t,
                         const uint8_t *, size_t, uint8_t, int8_t, uint8_t *, size_t, uint32_t *) = lxt_write;
 
@@ -439,6 +507,7 @@ static void all(const uint8_t *file, size_t length) {
     lxt_summary summary;
     lxt_facility facts;
     lxt_value value;
+    lxt_part part = {7, 8, 9};
     lxt_handed handed;
     int8_t timescale;
     int32_t msb, lsb;
@@ -454,6 +523,8 @@ static void all(const uint8_t *file, size_t length) {
     printf(" %d", (int)lxt_change_before(file, length, 0, 6, &one));
     printf(" %d", (int)lxt_change(file, length, 0, 6, NULL, 0, &time, &value, &clean));
     printf(" %d", (int)lxt_value_at(file, length, 0, INT64_MAX, NULL, 0, &value, &visited));
+    printf(" %d", (int)lxt_text_at(file, length, 0, INT64_MAX, NULL, 0, &part));
+    printf(":%d%d%d", (int)part.from, (int)part.start, (int)part.length);
     printf(" %d", (int)lxt_start_walk(file, length, NULL, 0, NULL, 0));
     printf(" %d", (int)lxt_start_walk(file, length, NULL, 0, &pair, 1));
     printf(" %d", (int)lxt_start_walk(file, length, &asked, 1, NULL, 0));
@@ -496,10 +567,10 @@ fn a_null_pointer_with_length_0_is_an_empty_slice() {
     let ran = command.output().expect("a run");
     assert!(ran.status.success(), "{:?}", ran.status);
     let expected = [
-        "1 1 1 1 1 1 1 1 1 1 1 1 1 1",
-        "0 0 0 0 21 0 21 21 21 22 21 21 0 21",
-        "0 0 18 18 18 18 18 18 0 0 22 0 0 21",
-        "0 0 0 0 21 19 19 0 21 22 21 21 0 21",
+        "1 1 1 1 1 1 1 1 1:789 1 1 1 1 1 1",
+        "0 0 0 0 21 0 21 21 0:200 21 22 21 21 0 21",
+        "0 0 18 18 18 18 18 18 18:789 0 0 22 0 0 21",
+        "0 0 0 0 21 19 19 0 0:100 21 22 21 21 0 21",
     ];
     let printed = String::from_utf8_lossy(&ran.stdout);
     assert_eq!(Vec::from_iter(printed.lines()), expected);

@@ -36,6 +36,7 @@ fn traces_of_the_folder() {
     assert!(seen.count("value_at", "bits", 0) >= 1_000);
     assert!(seen.count("change_before", "number", 0) >= 1_000);
     assert!(seen.visited().iter().all(|count| *count >= 1_000));
+    assert!(seen.texts().iter().all(|count| *count >= 50));
 }
 
 #[test]
@@ -114,6 +115,8 @@ fn generated_files() {
     assert!(seen.outside().iter().all(|count| *count >= 500));
     // Values by the changes visited: all of a root's and none answered, none, one, and several.
     assert!(seen.visited().iter().all(|count| *count >= 500));
+    // Texts of the file and lent ones, empty or not, with later changes or none, and other kinds.
+    assert!(seen.texts().iter().all(|count| *count >= 500));
 }
 
 #[test]
@@ -160,6 +163,9 @@ fn aliases_answer_as_their_roots() {
     }
     seen.report("aliases");
     assert!(seen.count("root", "number", 0) >= 1_000);
+    for sort in ["file", "lent", "other kind"] {
+        assert!(seen.count("text_at", sort, 0) >= 500, "{sort}");
+    }
     for question in QUESTIONS {
         assert!(seen.count(question, "refused", 12) >= 200, "{question}");
     }

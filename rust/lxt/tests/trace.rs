@@ -2,10 +2,10 @@
 
 use std::collections::BTreeMap;
 
-use lxt::{Change, Reading, Refusal, Trace, Walk};
+use lxt::{Change, Reading, Refusal, TextAt, Trace, Walk};
 use lxt_compare::traces;
 use lxt_generate::Random;
-use lxt_reference::{Judged, Value};
+use lxt_reference::{Judged, TextAt as TextPart, Value, Which};
 
 /// The same value with its symbols or bytes.
 fn reading<'a>(file: &'a [u8], value: Value, bits: &[u8]) -> Reading<'a> {
@@ -32,6 +32,16 @@ fn sort_of(reading: &Reading) -> &'static str {
         Reading::Text(_) => "text",
         Reading::NotDriven => "not driven",
         other => panic!("{other:?}"),
+    }
+}
+
+/// The independent reader's text with its bytes, and its sort.
+fn text_of<'a>(file: &'a [u8], text: TextPart, lent: &'a [u8]) -> (&'static str, TextAt<'a, 'a>) {
+    let part = |of: &'a [u8]| &of[text.start..][..text.length];
+    match text.which {
+        Which::File => ("text of the file", TextAt::File(part(file))),
+        Which::Lent => ("lent text", TextAt::Lent(part(lent))),
+        Which::OtherKind => ("no text", TextAt::OtherKind),
     }
 }
 
@@ -106,10 +116,16 @@ fn every_question_of_a_trace() {
                 let expected = reading(file, expected.value, &bits);
                 assert!(same(&lookup.value, &expected), "{what}");
                 *seen.entry(sort_of(&lookup.value)).or_default() += 1;
+                let text = trace.text_at(facility, time, b"none");
+                let expected = judged.text_at(facility, time, b"none");
+                let (sort, expected) = text_of(file, expected.expect("an answer"), b"none");
+                assert_eq!(text, Ok(expected), "{what}");
+                *seen.entry(sort).or_default() += 1;
             }
         }
         let none = summary.facilities;
         assert_eq!(trace.name(none), Err(Refusal::NoFacility));
+        assert_eq!(trace.text_at(none, 0, b"none"), Err(Refusal::NoFacility));
         assert_eq!(trace.walk_of(&[none]).err(), Some(Refusal::NoFacility));
         let asked = vec![true; none as usize + 1];
         assert_eq!(trace.walk(&asked).err(), Some(Refusal::Asked));
@@ -122,7 +138,8 @@ fn every_question_of_a_trace() {
     println!("{seen:?}");
     let sorts = ["bits", "real", "text", "not driven", "clean", "dirty"];
     let ranges = ["below 0", "32 bits", "past 32 bits"];
-    for sort in sorts.into_iter().chain(ranges) {
+    let texts = ["text of the file", "lent text", "no text"];
+    for sort in sorts.into_iter().chain(ranges).chain(texts) {
         assert!(seen[sort] >= 200, "{seen:?}");
     }
 }

@@ -1,4 +1,4 @@
-//! A plain reader and writer of LXT traces, written from the rules of paper 01 and Asks 1, 2, 5, 6 and 7
+//! A plain reader and writer of LXT traces, written from the rules of paper 01 and Asks 1, 2, 5, 6, 7 and 11
 //! of paper 02 alone, and from the definition of stray bytes that stands in `stray`.
 //!
 //! They exist to be compared, call by call, with others. So the reader follows the paper's order of
@@ -22,7 +22,7 @@ mod tests;
 pub use chains::{previous_offset, Fault};
 pub use dump::dump;
 pub use questions::{
-    chains, change, change_before, facts, judge, name, root, spans, value_at, Judged,
+    chains, change, change_before, facts, judge, name, root, spans, text_at, value_at, Judged,
 };
 pub use stray::stray_bytes;
 pub use walk::{carry_on, full_list, start_walk, Downwards, RecordFault, Tables};
@@ -102,4 +102,23 @@ pub enum Value {
     Real { bits: u64 },
     Text { start: u32, length: u32 },
     NotDriven,
+}
+
+/// Which of the two lent slices a text is a part of (Ask 11).
+#[derive(Clone, Copy, Debug, PartialEq, Eq, Hash, PartialOrd, Ord)]
+pub enum Which {
+    File,
+    /// The text lent as the default.
+    Lent,
+    /// Neither: the facility's kind is another.
+    OtherKind,
+}
+
+/// What asking for the text at a time answers (Ask 11): a part of the file, without its zero, or of the lent
+/// text, and which of them. Of another kind the part is empty.
+#[derive(Clone, Copy, Debug, PartialEq, Eq)]
+pub struct TextAt {
+    pub which: Which,
+    pub start: usize,
+    pub length: usize,
 }

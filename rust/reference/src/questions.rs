@@ -3,7 +3,7 @@
 
 use crate::chains::{bits_a_symbol, read_chains, spans_of, Chains, Change};
 use crate::tables::{read_tables, Trace};
-use crate::{Changed, Facts, Kind, Lookup, Summary, Value, LONGEST_NAME, SYMBOLS};
+use crate::{Changed, Facts, Kind, Lookup, Summary, TextAt, Value, Which, LONGEST_NAME, SYMBOLS};
 
 /// A file that passed the checks 1 to 17. Its methods answer as the calls of the same name do,
 /// without judging the file again.
@@ -96,15 +96,20 @@ impl<'a> Judged<'a> {
         })
     }
 
+    /// The change of highest offset with time <= `time`. An alias is asked as its root.
+    fn latest(&self, facility: usize, time: i64) -> Option<&Change> {
+        // The chain's first change is that of highest offset.
+        let mut chain = self.chains[self.trace.roots[facility]].iter();
+        chain.find(|change| self.trace.time(change.offset) <= time)
+    }
+
     pub fn value_at(&self, facility: u32, time: i64, bits: &mut [u8]) -> Result<Lookup, u8> {
         let facility = self.facility(facility)?;
         self.bits_room(facility, bits)?;
-        let chain = &self.chains[self.trace.roots[facility]];
-        let time_of = |change: &Change| self.trace.time(change.offset);
-        // The chain's first change is that of highest offset.
-        let answered = chain.iter().find(|change| time_of(change) <= time);
+        let answered = self.latest(facility, time);
         // All of that root's changes with time after t, plus the change answered, if any.
-        let later = chain.iter().filter(|change| time_of(change) > time);
+        let chain = self.chains[self.trace.roots[facility]].iter();
+        let later = chain.filter(|change| self.trace.time(change.offset) > time);
         let visited = later.count() + usize::from(answered.is_some());
         Ok(Lookup {
             value: match answered {
@@ -112,6 +117,31 @@ impl<'a> Judged<'a> {
                 None => self.write_initial(facility, bits),
             },
             visited: visited as u32,
+        })
+    }
+
+    /// Ask 11: no bits are written or need room, so that 18 is the only refusal after the file's.
+    pub fn text_at(&self, facility: u32, time: i64, text: &[u8]) -> Result<TextAt, u8> {
+        let facility = self.facility(facility)?;
+        if self.trace.facts[facility].kind != Kind::Text {
+            return Ok(TextAt {
+                which: Which::OtherKind,
+                start: 0,
+                length: 0,
+            });
+        }
+        Ok(match self.latest(facility, time) {
+            // The zero that ends its data is not part of the text.
+            Some(change) => TextAt {
+                which: Which::File,
+                start: change.data as usize,
+                length: (change.end - change.data) as usize - 1,
+            },
+            None => TextAt {
+                which: Which::Lent,
+                start: 0,
+                length: text.len(),
+            },
         })
     }
 
@@ -247,6 +277,11 @@ pub fn change(file: &[u8], facility: u32, offset: u32, bits: &mut [u8]) -> Resul
 /// changes visited.
 pub fn value_at(file: &[u8], facility: u32, time: i64, bits: &mut [u8]) -> Result<Lookup, u8> {
     Judged::new(file)?.value_at(facility, time, bits)
+}
+
+/// The text at a time, that of the change of highest offset with time <= `time`, or else the lent text.
+pub fn text_at(file: &[u8], facility: u32, time: i64, text: &[u8]) -> Result<TextAt, u8> {
+    Judged::new(file)?.text_at(facility, time, text)
 }
 
 /// The offsets of each facility's own chain, newest first; none for an alias.

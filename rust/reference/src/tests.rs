@@ -1,6 +1,7 @@
 //! The small trace of paper 01, P1 to P12, and the sentences of the readings, each in a small file.
 
 mod stray;
+mod text;
 mod visited;
 mod wide_times;
 mod write;

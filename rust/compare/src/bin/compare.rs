@@ -58,7 +58,7 @@ fn main() {
 }
 
 /// Prints what occurred, and gives what did not although there were enough files or inputs: then the run says
-/// nothing about padding, stray bytes, such times, changes visited or what was written.
+/// nothing about padding, stray bytes, such times, changes visited, texts or what was written.
 fn missing(compared: &Compared) -> Vec<String> {
     let mut missing = Vec::new();
     let enough = compared.files >= 1_000;
@@ -73,6 +73,7 @@ fn missing(compared: &Compared) -> Vec<String> {
     let met = met.chain(compared.zero_deltas());
     let met = met.chain(compared.long_times());
     let met = met.chain(compared.visited());
+    let met = met.chain(compared.texts());
     let met = met.map(|(what, count)| (what.to_string(), count, enough));
     let enough = compared.inputs >= 5_000;
     let written = compared.written().into_iter();

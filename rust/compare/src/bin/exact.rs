@@ -55,7 +55,7 @@ fn all_calls(file: &[u8]) -> u64 {
             }
             calls += 1;
         }
-        calls += 4;
+        calls += 4 + texts(&file, &judged, facility, chain);
     }
     for count in [n.saturating_sub(1), n] {
         let mut pairs = exact(Pair::default(), count);
@@ -67,6 +67,29 @@ fn all_calls(file: &[u8]) -> u64 {
         calls += 1;
     }
     calls + made_records(&file)
+}
+
+/// Asks for the text of a facility at its oldest change and at both ends of the range of times, and gives how many
+/// calls that is.
+fn texts(file: &[u8], judged: &Result<Judged, u8>, facility: u32, chain: &[u32]) -> u64 {
+    let mut times = vec![i64::MIN, i64::MAX];
+    if let (Ok(judged), Some(oldest)) = (judged, chain.last()) {
+        let oldest = judged.change(facility, *oldest, &mut exact(0, lxt::WIDEST));
+        times.extend(oldest.map(|read| read.time));
+    }
+    let mut calls = 0;
+    for time in times {
+        for count in [0, 1, 40] {
+            let text = exact(b'?', count);
+            let ours = lxt::text_at(file, facility, time, &text);
+            let ours = ours.map(|answer| answer.bytes().len());
+            let expected = judged.as_ref().map_err(|number| *number);
+            let expected = expected.and_then(|it| it.text_at(facility, time, &text));
+            assert_eq!(ours.map_err(|it| it.number()), expected.map(|it| it.length));
+            calls += 1;
+        }
+    }
+    calls
 }
 
 /// Carries on over records that no start wrote, where the tables are sound, and gives how many calls that is.

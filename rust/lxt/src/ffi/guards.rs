@@ -1,12 +1,13 @@
 //! All calls with every lent buffer between two pages that nothing may touch, exactly at the one or the
-//! other, and with what is lent to be read in memory that cannot be written. A read or write outside of
-//! what was lent ends the test run with a signal.
+//! other, and with what is lent to be read in memory that cannot be written. A text that is lent as a default
+//! is not even read, so it may lie in memory that cannot be read. A read or write outside of what was lent
+//! ends the test run with a signal.
 
 use std::ffi::{c_int, c_void};
 use std::marker::PhantomData;
 
-use super::c::{Facility, Handed, Summary, Value};
-use super::tests::{handed, numbers, rows, shape, Rows};
+use super::c::{self, Facility, Handed, Part, Summary, Value};
+use super::tests::{handed, numbers, part, rows, shape, Rows};
 use super::Given;
 use crate::{NewChange, NewFacility, Pair};
 use lxt_generate::Random;
@@ -101,6 +102,15 @@ impl<T: Copy> Guarded<T> {
     }
 }
 
+impl Guarded<u8> {
+    /// So many bytes that can be neither read nor written: where they start.
+    fn lend_untouched(&mut self, count: usize, place: Place) -> *const u8 {
+        let at = self.lend(&vec![0xA5; count], place).as_ptr();
+        self.allow(NOTHING);
+        at
+    }
+}
+
 impl<T> Drop for Guarded<T> {
     fn drop(&mut self) {
         // SAFETY: what `new` mapped, which nothing borrows any more.
@@ -116,12 +126,14 @@ struct Lent {
     file: Guarded<u8>,
     asked: Guarded<u8>,
     bytes: Guarded<u8>,
+    text: Guarded<u8>,
     pairs: Guarded<Pair>,
     output: Guarded<u32>,
     /// Structs and single numbers.
     summary: Guarded<Summary>,
     facts: Guarded<Facility>,
     value: Guarded<Value>,
+    part: Guarded<Part>,
     handed: Guarded<Handed>,
     one: Guarded<u32>,
     time: Guarded<i64>,
@@ -138,11 +150,13 @@ impl Lent {
             file: Guarded::new(longest),
             asked: Guarded::new(8_192),
             bytes: Guarded::new(8_192),
+            text: Guarded::new(300),
             pairs: Guarded::new(8_192),
             output: Guarded::new(16_384),
             summary: Guarded::new(1),
             facts: Guarded::new(1),
             value: Guarded::new(1),
+            part: Guarded::new(1),
             handed: Guarded::new(1),
             one: Guarded::new(1),
             time: Guarded::new(1),
@@ -177,6 +191,12 @@ const VALUE: Value = Value {
     length: 79,
 };
 
+const PART: Part = Part {
+    from: 77,
+    start: 78,
+    length: 79,
+};
+
 const HANDED: Handed = Handed {
     count: MARK,
     done: MARK,
@@ -188,6 +208,36 @@ fn after<T>(expected: Result<T, u8>, lent: T) -> (u32, T) {
         Ok(answer) => (0, answer),
         Err(number) => (number.into(), lent),
     }
+}
+
+/// The text at a time, with the lent one in memory that can be read, and in memory that cannot. Gives how many
+/// calls.
+fn text_calls(
+    file: &[u8],
+    judged: Result<&Judged, u8>,
+    (facility, time): (u32, i64),
+    lent: &mut Guarded<u8>,
+    parts: &mut Guarded<Part>,
+    place: Place,
+) -> u64 {
+    let counts = [0, 300];
+    for count in counts {
+        let text = vec![0xA5; count];
+        let expected = judged.and_then(|it| it.text_at(facility, time, &text));
+        let expected = after(expected.map(part), PART);
+        let text = lent.lend_to_read(&text, place);
+        let answer = &mut parts.lend(&[PART], place)[0];
+        let number = super::text_at(file, facility, time, text, answer);
+        assert_eq!((number, *answer), expected);
+
+        let text = lent.lend_untouched(count, place);
+        let answer = &mut parts.lend(&[PART], place)[0];
+        let (at, length) = (file.as_ptr(), file.len());
+        // SAFETY: as in `super::text_at`, but that the text cannot be read, which the header says it is not.
+        let number = unsafe { c::lxt_text_at(at, length, facility, time, text, count, answer) };
+        assert_eq!((number, *answer), expected);
+    }
+    2 * counts.len() as u64
 }
 
 /// All calls about a file with guarded memory, compared with the independent reader. Gives how many.
@@ -292,6 +342,12 @@ fn all_calls(file: &[u8], lent: &mut Lent, place: Place) -> u64 {
                 assert_eq!(bits, room);
                 calls += 3;
             }
+
+            // At the change's time, or at the mark.
+            let mut bits = vec![0; width];
+            let read = judged.and_then(|it| it.change(facility, offset, &mut bits));
+            let asked = (facility, read.map_or(TIME, |it| it.time));
+            calls += text_calls(file, judged, asked, &mut lent.text, &mut lent.part, place);
         }
         calls += 5;
     }
@@ -368,6 +424,33 @@ fn calls_stay_within_what_they_are_lent() {
     assert!(accepted > 800, "{accepted}");
 }
 
+/// Whether a text is lent, driven, driven and empty, of another kind or refused.
+#[test]
+fn a_lent_text_is_not_touched() {
+    let file = include_bytes!("../../../../traces/strings.gtkwave-export.unz.lxt");
+    let judged = Judged::new(file).expect("a trace");
+    let (mut text, mut parts) = (Guarded::new(300), Guarded::new(1));
+    let asked = [(2, -1), (2, 0), (2, 9), (0, 0), (7, 0)];
+    let from = asked.map(|(facility, time)| {
+        for place in [Place::First, Place::Last] {
+            text_calls(
+                file,
+                Ok(&judged),
+                (facility, time),
+                &mut text,
+                &mut parts,
+                place,
+            );
+        }
+        let expected = judged.text_at(facility, time, b"none");
+        expected.map(|it| (part(it).from, it.length))
+    });
+    assert_eq!(
+        from,
+        [Ok((1, 4)), Ok((0, 5)), Ok((0, 0)), Ok((2, 0)), Err(18)]
+    );
+}
+
 /// Guarded memory for what writing is lent.
 struct WritingLent {
     facilities: Guarded<NewFacility>,
@@ -441,12 +524,16 @@ fn touch(what: &str) {
     };
     let lent = guarded.lend_to_read(&[1; 100], place);
     assert_eq!(lent.iter().map(|it| u32::from(*it)).sum::<u32>(), 100);
-    let at = lent.as_ptr();
+    let mut at = lent.as_ptr();
+    if what == "untouched" {
+        at = guarded.lend_untouched(100, place);
+    }
     // SAFETY: none; that is the point.
     unsafe {
         match what {
             "before" => println!("{}", std::hint::black_box(at.sub(1)).read_volatile()),
             "behind" => println!("{}", std::hint::black_box(at.add(100)).read_volatile()),
+            "untouched" => println!("{}", std::hint::black_box(at).read_volatile()),
             _ => std::hint::black_box(at.cast_mut()).write_volatile(2),
         }
     }
@@ -459,7 +546,7 @@ fn guards_end_what_touches_them() {
         return touch(&what);
     }
     let name = "ffi::guards::guards_end_what_touches_them";
-    for what in ["before", "behind", "written"] {
+    for what in ["before", "behind", "untouched", "written"] {
         let tests = std::env::current_exe().expect("the tests");
         let mut process = std::process::Command::new(tests);
         let ended = process.args(["--exact", name]).env(TOUCH, what).output();

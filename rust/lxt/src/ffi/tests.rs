@@ -1,9 +1,9 @@
 use std::collections::BTreeMap;
 
-use super::c::{self, Facility, Handed, Summary};
+use super::c::{self, Facility, Handed, Part, Summary};
 use super::judge;
 use crate::{NewChange, NewFacility, Pair};
-use lxt_reference::{Judged, Value};
+use lxt_reference::{Judged, TextAt, Value, Which};
 
 // ---- Declared alike ----
 
@@ -22,6 +22,7 @@ fn rust_type(words: &str) -> String {
         "lxt_summary" => "Summary".to_string(),
         "lxt_facility" => "Facility".to_string(),
         "lxt_value" => "Value".to_string(),
+        "lxt_part" => "Part".to_string(),
         "lxt_handed" => "Handed".to_string(),
         "lxt_new_facility" => "NewFacility".to_string(),
         "lxt_new_change" => "NewChange".to_string(),
@@ -57,7 +58,7 @@ fn the_declarations_are_those_of_the_header() {
     let public = joined(&Vec::from_iter(public).join(" "));
 
     let functions: Vec<&str> = plain.split("uint32_t lxt_").skip(1).collect();
-    assert_eq!(functions.len(), 11);
+    assert_eq!(functions.len(), 12);
     for function in functions {
         let (name, rest) = function.split_once('(').expect("a function");
         let (arguments, _) = rest.split_once(");").expect("its arguments");
@@ -71,10 +72,10 @@ fn the_declarations_are_those_of_the_header() {
         let declared = format!("pub fn lxt_{name}({arguments}) -> u32;");
         assert!(ours.contains(&declared), "{declared}");
     }
-    assert_eq!(ours.matches("pub fn lxt_").count(), 11);
+    assert_eq!(ours.matches("pub fn lxt_").count(), 12);
 
     let structs: Vec<&str> = plain.split("typedef struct {").skip(1).collect();
-    assert_eq!(structs.len(), 7);
+    assert_eq!(structs.len(), 8);
     for part in structs {
         let (fields, rest) = part.split_once('}').expect("its end");
         let (name, _) = rest.split_once(';').expect("its name");
@@ -98,7 +99,8 @@ fn the_declarations_are_those_of_the_header() {
 
 // ---- Length ----
 
-/// All ten answers of reading about a file with this many bytes, pairs and numbers lent, and what these hold.
+/// All eleven answers of reading about a file with this many bytes, pairs and numbers lent, and what these hold.
+/// The text that is lent has these bytes too.
 fn all_answers(file: &[u8], bits: &mut [u8], pairs: &mut [Pair], output: &mut [u32]) -> String {
     let mut answers = String::new();
     let (mut five, mut scale) = (MARKED, 99);
@@ -125,6 +127,9 @@ fn all_answers(file: &[u8], bits: &mut [u8], pairs: &mut [Pair], output: &mut [u
         for time in [i64::MIN, 100, i64::MAX] {
             let number = super::value_at(file, facility, time, bits, &mut three, &mut one);
             answers += &format!("{number} {three:?} {one} {bits:?}, ");
+            let mut three = PART;
+            let number = super::text_at(file, facility, time, bits, &mut three);
+            answers += &format!("{number} {three:?}, ");
         }
     }
     let number = super::start_walk(file, &asked, pairs);
@@ -138,6 +143,9 @@ const PAIR: Pair = Pair {
     number: 0xAAAA_AAAA,
     offset: 0xBBBB_BBBB,
 };
+
+/// Facility 2 of this trace is a text: `hello` from the time 0 on, and empty from 9 on; 0 is a bit.
+const STRINGS: &[u8] = include_bytes!("../../../../traces/strings.gtkwave-export.unz.lxt");
 
 /// Small generated files: of accepted ones also their number of facilities.
 fn small_files(seeds: std::ops::Range<u64>) -> impl Iterator<Item = (Vec<u8>, usize)> {
@@ -192,6 +200,12 @@ fn an_empty_slice_may_be_lent() {
     assert_eq!(judge(&[], &mut answer, &mut timescale), 1);
     let mut stray = 77;
     assert_eq!((super::stray(&[], &mut stray), stray), (1, 77));
+    let mut part = PART;
+    assert_eq!((super::text_at(&[], 0, 0, &[], &mut part), part), (1, PART));
+    for (time, expected) in [(-1, [1, 0, 0]), (0, [0, 21, 5]), (9, [0, 124, 0])] {
+        assert_eq!(super::text_at(STRINGS, 2, time, &[], &mut part), 0);
+        assert_eq!([part.from, part.start, part.length], expected, "{time}");
+    }
 }
 
 // ---- Aligned ----
@@ -204,6 +218,7 @@ fn a_struct_is_its_numbers() {
     assert_eq!((size_of::<Summary>(), align_of::<Summary>()), (20, 4));
     assert_eq!((size_of::<Facility>(), align_of::<Facility>()), (8, 4));
     assert_eq!((size_of::<c::Value>(), align_of::<c::Value>()), (24, 8));
+    assert_eq!((size_of::<Part>(), align_of::<Part>()), (24, 8));
     assert_eq!((size_of::<Handed>(), align_of::<Handed>()), (8, 4));
     assert_eq!(
         (size_of::<NewFacility>(), align_of::<NewFacility>()),
@@ -264,6 +279,48 @@ fn parts_of_one_buffer_may_be_lent_where_they_do_not_overlap() {
     assert_eq!(super::name(last, 0, names, &mut above), 0);
     assert_eq!((below, &*first, &*last), (above, &file[..], &file[..]));
     assert!(below > 0 && names[below as usize..].iter().all(|it| *it == 0));
+}
+
+#[test]
+fn what_is_only_read_may_overlap() {
+    // A lent text in the file: all of it, the text that is driven, or none.
+    for text in [STRINGS, &STRINGS[21..26], &STRINGS[21..21]] {
+        for (time, expected) in [(-1, [1, 0, text.len() as u64]), (0, [0, 21, 5])] {
+            let mut part = PART;
+            assert_eq!(super::text_at(STRINGS, 2, time, text, &mut part), 0);
+            assert_eq!([part.from, part.start, part.length], expected);
+        }
+    }
+    // Asked bytes in the file, whose first byte is 1.
+    let file = include_bytes!("../../../../traces/gpsim_onereg.lxt");
+    let (mut apart, mut within) = ([PAIR], [PAIR]);
+    assert_eq!(super::start_walk(file, &[1], &mut apart), 0);
+    assert_eq!(super::start_walk(file, &file[..1], &mut within), 0);
+    assert_eq!(within, apart);
+    // Names and values in one buffer.
+    let facility = NewFacility {
+        name_length: 1,
+        ..NewFacility::default()
+    };
+    let change = NewChange {
+        value_length: 1,
+        ..NewChange::default()
+    };
+    let shared = *b"1";
+    let written = |values| {
+        let given = super::Given {
+            facilities: &[facility],
+            names: &shared,
+            changes: &[change],
+            values,
+            initial: 3,
+            timescale: -9,
+        };
+        let (mut out, mut length) = ([0; 200], 0);
+        assert_eq!(super::write(given, &mut out, &mut length), 0);
+        (out, length)
+    };
+    assert_eq!(written(&shared), written(&shared.clone()));
 }
 
 // ---- Nothing kept ----
@@ -412,6 +469,16 @@ fn structs_are_written_whole_and_nothing_around_them() {
         );
     }
 
+    let strings = Judged::new(STRINGS).expect("a trace");
+    for (facility, time) in [(2, -1), (2, 0), (2, 9), (0, 0)] {
+        let (text, mut three) = (framed(*b"none"), framed(PART));
+        let lent = (&text.lent, &mut three.lent);
+        assert_eq!(super::text_at(STRINGS, facility, time, lent.0, lent.1), 0);
+        let expected = strings.text_at(facility, time, b"none").expect("an answer");
+        assert_eq!(three.unframed(), part(expected), "{facility} at {time}");
+        assert_eq!(text.unframed(), *b"none");
+    }
+
     let mut pairs = framed([PAIR; 1]);
     assert_eq!(super::start_walk(file, &[1], &mut pairs.lent), 0);
     let (mut two, mut output) = (framed(HANDED), framed([77; 2]));
@@ -439,6 +506,12 @@ const FACTS: Facility = Facility {
 const VALUE: c::Value = c::Value {
     what: 0xAAAA_AAAA_AAAA_AAAA,
     number: 0xBBBB_BBBB_BBBB_BBBB,
+    length: 0xCCCC_CCCC_CCCC_CCCC,
+};
+
+const PART: Part = Part {
+    from: 0xAAAA_AAAA_AAAA_AAAA,
+    start: 0xBBBB_BBBB_BBBB_BBBB,
     length: 0xCCCC_CCCC_CCCC_CCCC,
 };
 
@@ -532,6 +605,20 @@ pub fn numbers(value: Value) -> c::Value {
     }
 }
 
+/// The independent reader's text at a time as the numbers of C's.
+pub fn part(text: TextAt) -> Part {
+    let from = match text.which {
+        Which::File => 0,
+        Which::Lent => 1,
+        Which::OtherKind => 2,
+    };
+    Part {
+        from,
+        start: text.start as u64,
+        length: text.length as u64,
+    }
+}
+
 /// The independent reader's facts as the numbers of C's.
 pub fn shape(facts: &lxt_reference::Facts) -> Facility {
     Facility {
@@ -619,6 +706,38 @@ fn a_value_is_written_or_stays() {
     println!("{seen:?}");
     let refusals = (1..=18).chain([21]).map(|number| (number, MARKS.1));
     for answer in refusals.chain([(0, 0), (0, 1), (0, 2)]) {
+        assert!(
+            seen.get(&answer).is_some_and(|count| *count >= 50),
+            "{answer:?}"
+        );
+    }
+}
+
+#[test]
+fn a_part_is_written_or_stays() {
+    let mut seen = BTreeMap::new();
+    questions(|file, judged, facility, offset, room| {
+        let judged = judged.as_ref().map_err(|number| *number);
+        // The time of a change, or one that is any number.
+        let read = judged.and_then(|it| it.change(facility, offset, &mut [0; 4_096]));
+        let any = i64::from(offset);
+        for time in [read.map_or(any, |it| it.time), -any, i64::MIN, i64::MAX] {
+            let text = vec![0xA5; room];
+            let mut answer = framed(PART);
+            let number = super::text_at(file, facility, time, &text, &mut answer.lent);
+            let answer = answer.unframed();
+            let expected = judged.and_then(|it| it.text_at(facility, time, &text));
+            assert_eq!((number, answer), after(expected.map(part), PART));
+            assert!(text.iter().all(|it| *it == 0xA5));
+            let met = (number, answer.from, answer.length == 0);
+            *seen.entry(met).or_insert(0) += 1;
+        }
+    });
+    // Parts of either text, empty ones too, other kinds, and the mark after each refusal that the call can give.
+    println!("{seen:?}");
+    let refusals = (1..=18).map(|number| (number, PART.from, false));
+    let parts = [(0, 0, false), (0, 0, true), (0, 1, false), (0, 1, true)];
+    for answer in refusals.chain(parts).chain([(0, 2, true)]) {
         assert!(
             seen.get(&answer).is_some_and(|count| *count >= 50),
             "{answer:?}"

@@ -18,6 +18,7 @@ pub fn by_every_call(file: &[u8], no: Refusal, what: &str) {
     assert_eq!(lxt::change(file, 0, 6, &mut bits), Err(no), "{what}");
     for time in [i64::MIN, 5, i64::MAX] {
         assert_eq!(lxt::value_at(file, 0, time, &mut bits), Err(no), "{what}");
+        assert_eq!(lxt::text_at(file, 0, time, b"none"), Err(no), "{what}");
     }
     assert_eq!(bits, [b'?'], "{what}");
     // Of a walk the start, and the next call of one that was started over another file.

@@ -24,7 +24,7 @@ change 0 4 10 011
 done 4
 ";
 
-fn mixed() -> Vec<u8> {
+pub fn mixed() -> Vec<u8> {
     let byte = |at: usize| u8::from_str_radix(&MIXED[2 * at..2 * at + 2], 16);
     let bytes = (0..MIXED.len() / 2).map(|at| byte(at).expect("a byte"));
     bytes.collect()

@@ -17,6 +17,7 @@ fn assert_refused(file: &[u8], number: u8, what: &str) {
     assert_eq!(change(file, 0, 6, &mut [0]), Err(number), "{what}");
     for time in [LEAST, 0, MOST] {
         assert_eq!(value_at(file, 0, time, &mut [0]), Err(number), "{what}");
+        assert_eq!(text_at(file, 0, time, b"none"), Err(number), "{what}");
     }
     let (mut numbers, mut offsets) = ([0], [6]);
     let start = start_walk(file, &[1], &mut numbers, &mut offsets);

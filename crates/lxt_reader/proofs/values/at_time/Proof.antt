@@ -43,7 +43,7 @@ latest-requires c κs =
     let accepted = enough .before .before .before in
     let chain = accepted .before .before in
     let entry = chain .before .before .before in
-    latest-asks _ _ (entry .args .time) (entry .args .bits .now) _ (chain .find-chain .ensures) (accepted .if1 .left)
+    latest-asks _ _ (entry .args .time) _ (chain .find-chain .ensures) (accepted .if1 .left)
 
 cast-visited : tie.Need-cast-visited
 cast-visited c =
@@ -53,7 +53,7 @@ cast-visited c =
     let chain = accepted .before .before in
     let entry = chain .before .before .before in
     let latest = latest-at _ _ (entry .fits .time) _ _ _ (found .latest .ensures) in
-    record { fits = visited-fits _ _ _ (entry .args .bits .now) _ (chain .find-chain .ensures) (accepted .if1 .left) (enough .if2 .left) _ _ latest }
+    record { fits = visited-fits _ _ _ _ (chain .find-chain .ensures) (accepted .if1 .left) _ _ latest }
 
 initial-requires : tie.Need-initial-requires
 initial-requires c κs = search needs

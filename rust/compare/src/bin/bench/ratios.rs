@@ -1,12 +1,12 @@
-//! Judging, values, changes, walks and names: the proved functions against the independent reader.
+//! Judging, values, texts, changes, walks and names: the proved functions against the independent reader.
 
 use std::cell::RefCell;
 use std::hint::black_box;
 
 use crate::timing::{grouped, medians, seconds, shown, used};
-use lxt::Pair;
+use lxt::{NewValue, Pair, TextAt, Writer};
 use lxt_generate::{large, Large, Random, LONG_TIMES, SHORT_TIMES};
-use lxt_reference::Judged;
+use lxt_reference::{Judged, Kind, Which};
 
 pub struct Input {
     pub name: String,
@@ -17,6 +17,8 @@ pub struct Input {
     latest: i64,
     /// Roots and offsets of changes that are read, evenly over all.
     read: Vec<(u32, u32)>,
+    /// The facilities that are texts.
+    texts: Vec<u32>,
 }
 
 impl Input {
@@ -33,12 +35,16 @@ impl Input {
         let all = judged.full_list(&vec![1; chains.len()]).expect("a list");
         let read = (0..64).map(|place| all[place * all.len() / 64]);
         let read = read.collect();
+        let kind = |facility: &u32| judged.facts(*facility).expect("facts").kind;
+        let texts = (0..chains.len() as u32).filter(|it| kind(it) == Kind::Text);
+        let texts = texts.collect();
         Input {
             name: name.into(),
             facilities: chains.len(),
             changes: all.len(),
             latest,
             read,
+            texts,
             file,
         }
     }
@@ -59,6 +65,24 @@ pub fn shape(bytes: usize, facilities: usize, width: u32) -> Large {
     }
 }
 
+/// About so many bytes of texts that change in turn: eleven for a change and its part of a time entry, of which there
+/// is one for eight changes.
+fn texts_of(bytes: usize, facilities: usize) -> Vec<u8> {
+    let mut writer = Writer::new(-9, 3).expect("a writer");
+    for _ in 0..facilities {
+        let made = writer.facility(b"text", lxt::Kind::Text, 0, 0);
+        made.expect("a facility");
+    }
+    // Ten thousand bytes are left for the tables.
+    for place in 0..(bytes - 10_000) / 11 {
+        let text = &b"twelve bytes"[..place % 13];
+        let (facility, time) = ((place % facilities) as u32, (place / 8) as u32);
+        let made = writer.change(facility, time, NewValue::Text(text));
+        made.expect("a change");
+    }
+    writer.write().expect("a file")
+}
+
 pub const MB: usize = 1_000_000;
 pub const LONGEST: usize = 16_777_216;
 
@@ -74,6 +98,7 @@ fn inputs() -> Vec<Input> {
             inputs.push(Input::of_shape("8-bit signals", bytes, facilities, 8));
         }
         inputs.push(Input::of_shape("4,096-bit buses", bytes, 122, 4_096));
+        inputs.push(Input::new("texts", texts_of(bytes, 122)));
     }
     // More time entries than bytes of changes: two or three at each position.
     // The same with 64-bit times, of which fewer fit.
@@ -156,6 +181,42 @@ fn values(input: &Input, one: f64) {
         },
     );
     row(input, "a value at a time", times, calls);
+}
+
+/// Of a trace that has texts.
+fn texts(input: &Input, one: f64) {
+    let file = &input.file;
+    let mut random = Random::new(7);
+    let question = |_| {
+        let facility = random.pick(&input.texts);
+        (facility, random.within_signed(-1, input.latest))
+    };
+    let calls = calls_in_a_run(one, 64);
+    let questions: Vec<(u32, i64)> = (0..calls).map(question).collect();
+    let text = b"none";
+    for (facility, time) in &questions {
+        let ours = lxt::text_at(file, *facility, *time, text).map(|it| match it {
+            TextAt::File(part) => (Which::File, part.len()),
+            TextAt::Lent(part) => (Which::Lent, part.len()),
+            TextAt::OtherKind => (Which::OtherKind, 0),
+        });
+        let theirs = lxt_reference::text_at(file, *facility, *time, text);
+        let theirs = theirs.map(|it| (it.which, it.length));
+        assert_eq!(ours.ok(), theirs.ok());
+    }
+    let times = medians(
+        || {
+            for (facility, time) in &questions {
+                let _ = black_box(lxt::text_at(file, *facility, *time, text));
+            }
+        },
+        || {
+            for (facility, time) in &questions {
+                let _ = black_box(lxt_reference::text_at(file, *facility, *time, text));
+            }
+        },
+    );
+    row(input, "a text at a time", times, calls);
 }
 
 fn changes(input: &Input, one: f64) {
@@ -346,6 +407,9 @@ pub fn print() {
     for input in inputs() {
         let one = judging(&input);
         values(&input, one);
+        if !input.texts.is_empty() {
+            texts(&input, one);
+        }
         changes(&input, one);
         names(&input, one);
         whole_walk(&input);

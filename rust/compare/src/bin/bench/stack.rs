@@ -7,6 +7,7 @@ use crate::timing::{grouped, used};
 use lxt::Pair;
 use lxt_compare::write::{proved, Rows};
 use lxt_generate::{large, Large, LONG_TIMES, SHORT_TIMES};
+use lxt_reference::{Judged, Kind};
 
 type Entry = extern "C" fn(*mut c_void) -> *mut c_void;
 
@@ -93,14 +94,21 @@ pub fn print() {
     let nothing = used_by(&mut || used(0));
     let mut most = [0; lxt_compare::CALLS.len()];
     for (seed, file) in files.iter().enumerate() {
-        let summary = lxt_reference::judge(file);
-        let n = summary.map_or(2, |it| it.facilities as usize);
-        let chains = lxt_reference::chains(file).unwrap_or_default();
+        let judged = Judged::new(file);
+        let judged = judged.as_ref().map_err(|number| *number);
+        let n = judged.map_or(2, |it| it.summary().facilities as usize);
+        let chains = judged.map(Judged::chains).unwrap_or_default();
         let (facility, offset) = chains
             .iter()
             .enumerate()
             .find_map(|(root, chain)| Some((root as u32, *chain.last()?)))
             .unwrap_or((0, 6));
+        // A facility of another kind has no text to look for.
+        let is_text = |facility: &u32| {
+            let facts = judged.and_then(|it| it.facts(*facility));
+            facts.is_ok_and(|it| it.kind == Kind::Text)
+        };
+        let text = (0..n as u32).find(is_text).unwrap_or(facility);
         let (mut names, mut bits) = (vec![0; 1_023], vec![0; 4_096]);
         let asked = vec![1; n];
         let mut pairs = vec![Pair::default(); n];
@@ -116,6 +124,7 @@ pub fn print() {
             used_by(&mut || used(lxt::change_before(file, facility, offset))),
             used_by(&mut || used(lxt::change(file, facility, offset, &mut bits))),
             used_by(&mut || used(lxt::value_at(file, facility, 1_000, &mut bits))),
+            used_by(&mut || used(lxt::text_at(file, text, 1_000, b"none"))),
             used_by(&mut || used(lxt::start_walk(file, &asked, &mut pairs))),
             used_by(&mut || used(lxt::carry_on(file, &mut pairs, 1_000, &mut output))),
             used_by(&mut || used(proved(&input, &rows, &mut out))),
