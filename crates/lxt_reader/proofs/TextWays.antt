@@ -30,6 +30,7 @@ use Rattle.lxt_format.specs.declared.Kind.the-variants.{Bits, Integer, Real, Te
 use Rattle.lxt_format.specs.declared.TextAnswer.{TextAnswer}
 use Rattle.lxt_format.specs.declared.TextAnswer.the-variants.{File, Lent, OtherKind, Refused}
 use Rattle.lxt_reader.specs.Changing.{Chained}
+use Rattle.lxt_reader.specs.Reading.{TextThere, textPlace}
 use Rattle.lxt_reader.specs.declared.changes.Chain.{Chain}
 use Rattle.lxt_reader.proofs.ValueWays.{tables-are, asked-fine, change-is, latest-fine}
 
@@ -43,6 +44,18 @@ other-number Real k e = false≢true (ap is-text e)
 other-number Text (inl k) e = omega arith
 other-number Text (inr (inl k)) e = omega arith
 other-number Text (inr (inr k)) e = omega arith
+
+-- ---- the text of a change
+
+module _ (s : List ℕ) (end o : ℕ) (w : TextThere s end o) (start size : ℕ) (es : start ≡ dataAt s o) (ez : size ≡ toZero (slice start end s)) where
+  same-size : size ≡ toZero (slice (dataAt s o) end s)
+  same-size = ez ∙ rw es
+
+  pub size-small : size < 4294967296
+  size-small = omega (arith, same-size, w .small)
+
+  pub text-is : given (inFile start size) ≡ given (textPlace s end o)
+  text-is = rw (same-size, es)
 
 -- ---- where the text stands
 
@@ -66,9 +79,6 @@ module _ (s : List ℕ) (f : ℕ) (t : ℤ) (lent : ℕ) (c : Chain) (w : Chaine
     pub text-another : OneOf (0 ∷ 1 ∷ 2 ∷ []) (tagOf K.the-type (c .facts .kind)) → given otherKind ≡ textAsked s f t lent
     text-another k = says otherKind (text-other s (rootOf s f) t lent (λ e. other-number (c .facts .kind) k (own-kind _ refl ∙ e)))
 
-    pub end-in : c .tables .end ≤ length s
-    end-in = let k = tables-are s f c (w .tables) fine (w .followed h) in omega (arith, k .end-high)
-
     module _ (e : c .facts .kind ≡ Text) (o visited : ℕ) (found : (o ≡ latestAt s t (chainOf s (c .start))) × (visited ≡ visitedIn s t (chainOf s (c .start)))) where
       text-kind : ownFacts s (rootOf s f) .kind ≡ Text
       text-kind = sym (own-kind _ refl) ∙ e
@@ -80,32 +90,24 @@ module _ (s : List ℕ) (f : ℕ) (t : ℤ) (lent : ℕ) (c : Chain) (w : Chaine
       text-lent z = says (lentText lent) (text-start s (rootOf s f) t text-kind lent (sym at-change ∙ z))
 
       module _ (some : o ≡ 0 → ⊥) where
-        pub change-in : o < length s
-        change-in =
+        place-is : textPlace s (c .tables .end) o ≡ textAt s (rootOf s f) t lent
+        place-is =
             let k = tables-are s f c (w .tables) fine (w .followed h) in
-            omega (arith, latest-fine s f t c w h o visited found some .before, k .end-high, k .end)
+            rw (at-change, k .end) (sym (text-driven s (rootOf s f) t text-kind lent (λ z. some (at-change ∙ z))))
 
-        module _ (start size : ℕ) (es : start ≡ dataAt s o) (ez : size ≡ toZero (slice start (c .tables .end) s)) where
-          same-size : size ≡ toZero (slice (dataAt s o) (endOf s) s)
-          same-size = let k = tables-are s f c (w .tables) fine (w .followed h) in ez ∙ rw (es, k .end)
+        pub text-there : TextThere s (c .tables .end) o
+        text-there =
+            let k = tables-are s f c (w .tables) fine (w .followed h) in
+            let inside = text-inside s f t fine text-kind (λ z. some (at-change ∙ z)) in
+            let low : dataAt s o + toZero (slice (dataAt s o) (c .tables .end) s) + 1 ≤ endOf s = rw (at-change, k .end) inside in
+            record {
+              start = omega (arith, latest-fine s f t c w h o visited found some .before, k .end-high, k .end);
+              within = omega (arith, k .end-high);
+              small = omega (arith, low, k .end-high, k .end, k .long);
+            }
 
-          -- inside the file, and so in 32 bits
-          place-small : start + size + 1 ≤ 16777216
-          place-small =
-              let k = tables-are s f c (w .tables) fine (w .followed h) in
-              let inside = text-inside s f t fine text-kind (λ z. some (at-change ∙ z)) in
-              let low : start + size + 1 ≤ endOf s = rw (es, same-size, at-change) inside in
-              omega (arith, k .end-high, k .end, k .long)
-
-          pub start-small : start < 4294967296
-          start-small = omega (arith, place-small)
-
-          pub size-small : size < 4294967296
-          size-small = omega (arith, place-small)
-
-          pub text-found : given (inFile start size) ≡ textAsked s f t lent
-          text-found =
-              says (inFile start size) (text-driven s (rootOf s f) t text-kind lent (λ z. some (at-change ∙ z)) ∙ rw (← at-change, same-size, es))
+        pub text-found : (a : Answer TextSource) → a ≡ given (textPlace s (c .tables .end) o) → a ≡ textAsked s f t lent
+        text-found a e = e ∙ says _ (sym place-is)
 
 -- ---- the part
 

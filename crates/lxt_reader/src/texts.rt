@@ -2,14 +2,29 @@
 ghost use mathlib.Core.Path.{_≡_};
 ghost use lib.ListN.{length};
 ghost use denote.Ref.{ptr};
+ghost use Rattle.lxt_format.specs.Basics.{given};
 ghost use Rattle.lxt_format.specs.Answers.{textSays};
 ghost use Rattle.lxt_format.specs.Questions.{textAsked, textPart, placeBy};
+ghost use Rattle.lxt_reader.specs.Reading.{TextThere, textPlace};
 use crate::changes;
 use lxt_changes::delta;
 use lxt_format::Kind;
 use lxt_format::TextAnswer;
 use lxt_values::texts;
 use lxt_values::times;
+
+// Where the text of the change at `o` stands in the file, without its zero.
+fn text_of(file: &[u8], end: usize, o: usize) -> TextAnswer
+    requires { ⌜ TextThere (now file) end o ⌝ }
+    ensures { λ r. ⌜ textSays r ≡ given (textPlace (now (file .entry)) end o) ⌝ }
+{
+    let start = delta::data_at(file, o);
+    let length = texts::length(file, start, end);
+    TextAnswer::File {
+        start: start as u32,
+        length: length as u32,
+    }
+}
 
 // Where the text stands, in the file or the lent text.
 pub fn place_at(file: &[u8], facility: u32, time: i64, text: &[u8]) -> TextAnswer
@@ -36,12 +51,7 @@ pub fn place_at(file: &[u8], facility: u32, time: i64, text: &[u8]) -> TextAnswe
     if found.offset == 0 {
         return TextAnswer::Lent { length: text.len() };
     }
-    let start = delta::data_at(file, found.offset);
-    let length = texts::length(file, start, t.end);
-    TextAnswer::File {
-        start: start as u32,
-        length: length as u32,
-    }
+    text_of(file, t.end, found.offset)
 }
 
 // The text itself, a part of the file or the whole lent text; empty where the facility is of another kind or

@@ -1,6 +1,6 @@
 use Rattle.lxt_values.proofs.BiasLaws.{latest-at}
 use Rattle.lxt_reader.proofs.ValueWays.{latest-asks}
-use Rattle.lxt_reader.proofs.TextWays.{text-refused, text-another, end-in, text-lent, change-in, start-small, size-small, text-found}
+use Rattle.lxt_reader.proofs.TextWays.{text-refused, text-another, text-lent, text-there, text-found}
 use borrow.Author.Needs.{needs}
 use Rattle.lxt_reader.proofs.texts.place_at.Statement.{statement}
 use Rattle.lxt_reader.proofs.texts.place_at.Tie as tie
@@ -48,67 +48,27 @@ returns-3 c =
     let latest = latest-at _ _ (entry .fits .time) _ _ _ (found .latest .ensures) in
     text-lent _ _ _ _ _ (chain .find-chain .ensures) (accepted .if1 .left) (text .enum-told .given .1) _ _ latest (c .if2 .taken)
 
-data-at-requires : tie.Need-data-at-requires
-data-at-requires c κs =
+text-of-requires : tie.Need-text-of-requires
+text-of-requires c κs =
     let found = c .before .before in
     let text = found .before .before .before .before in
     let accepted = text .before .before .before in
     let chain = accepted .before .before in
     let entry = chain .before .before .before in
     let latest = latest-at _ _ (entry .fits .time) _ _ _ (found .latest .ensures) in
-    change-in _ _ _ 0 _ (chain .find-chain .ensures) (accepted .if1 .left) (text .enum-told .given .1) _ _ latest (c .if2 .left)
-
-length-requires : tie.Need-length-requires
-length-requires c κs =
-    let found = c .before .before .before in
-    let text = found .before .before .before .before in
-    let accepted = text .before .before .before in
-    let chain = accepted .before .before in
-    let entry = chain .before .before .before in
-    end-in _ _ (entry .args .time) 0 _ (chain .find-chain .ensures) (accepted .if1 .left)
-
-cast-t16 : tie.Need-cast-t16
-cast-t16 c =
-    let start = c .before in
-    let some = start .before in
-    let found = some .before .before in
-    let text = found .before .before .before .before in
-    let accepted = text .before .before .before in
-    let chain = accepted .before .before in
-    let entry = chain .before .before .before in
-    let latest = latest-at _ _ (entry .fits .time) _ _ _ (found .latest .ensures) in
-    record {
-      fits = start-small _ _ _ 0 _ (chain .find-chain .ensures) (accepted .if1 .left) (text .enum-told .given .1) _ _ latest (some .if2 .left) _ _
-          (start .data-at .ensures .0) (c .length .ensures .0);
-    }
-
-cast-t17 : tie.Need-cast-t17
-cast-t17 c =
-    let start = c .before in
-    let some = start .before in
-    let found = some .before .before in
-    let text = found .before .before .before .before in
-    let accepted = text .before .before .before in
-    let chain = accepted .before .before in
-    let entry = chain .before .before .before in
-    let latest = latest-at _ _ (entry .fits .time) _ _ _ (found .latest .ensures) in
-    record {
-      fits = size-small _ _ _ 0 _ (chain .find-chain .ensures) (accepted .if1 .left) (text .enum-told .given .1) _ _ latest (some .if2 .left) _ _
-          (start .data-at .ensures .0) (c .length .ensures .0);
-    }
+    text-there _ _ _ 0 _ (chain .find-chain .ensures) (accepted .if1 .left) (text .enum-told .given .1) _ _ latest (c .if2 .left)
 
 returns-4 : tie.Need-returns-4
 returns-4 c =
-    let start = c .before in
-    let some = start .before in
+    let some = c .before in
     let found = some .before .before in
     let text = found .before .before .before .before in
     let accepted = text .before .before .before in
     let chain = accepted .before .before in
     let entry = chain .before .before .before in
     let latest = latest-at _ _ (entry .fits .time) _ _ _ (found .latest .ensures) in
-    text-found _ _ _ _ _ (chain .find-chain .ensures) (accepted .if1 .left) (text .enum-told .given .1) _ _ latest (some .if2 .left) _ _
-    (start .data-at .ensures .0) (c .length .ensures .0)
+    text-found _ _ _ _ _ (chain .find-chain .ensures) (accepted .if1 .left) (text .enum-told .given .1) _ _ latest (some .if2 .left) _
+    (c .text-of .ensures)
 
 pub place-at-spec : {M : Type 1} → statement M
 place-at-spec =
@@ -122,8 +82,5 @@ place-at-spec =
     cast-latest-2
     latest-requires
     returns-3
-    data-at-requires
-    length-requires
-    cast-t16
-    cast-t17
+    text-of-requires
     returns-4)
