@@ -4,10 +4,10 @@
  * the first check that fails (enum lxt_refusal). Where it refuses, nothing that was lent has changed.
  *
  * Each call that reads judges the file first, by all of its checks, 1 to 17, whatever was asked before;
- * lxt_carry_on alone makes only 1 to 14 of them. After the file come 18, 19, 21 and 22, in this order; in
+ * lxt_carry_on alone makes only 1 to 14 of them. After the file come 35, 18, 19, 21 and 22, in this order; in
  * lxt_carry_on 21 for the record, 20, and 21 for the output. So a question costs time that grows with the
- * file's length and its number of changes: to read many changes of a large file, walk. lxt_write makes a file
- * and gives 24 and 25 alone.
+ * file's length and its number of changes: to read many changes of a large file, walk, and for the values of
+ * many facilities at one time, ask for a column. lxt_write makes a file and gives 24 and 25 alone.
  *
  * What the caller owes:
  *
@@ -15,7 +15,7 @@
  *   or room of 0 it may be null. No other pointer may be null.
  * - What is written overlaps nothing else that is lent; what is only read may overlap. What is lent, the
  *   bytes of the file above all, does not change during the call.
- * - 128 KiB of stack are enough for each call; the most that was measured is 123,752 bytes.
+ * - 128 KiB of stack are enough for each call; the most that was measured is 123,880 bytes.
  *
  * The functions keep nothing between calls: there is nothing to set up or to free, and calls can be made
  * from any thread. The archive needs memcpy and memset of the C library and nothing else.
@@ -32,13 +32,15 @@ extern "C" {
 
 /* The limits of an accepted file: its length in bytes, its number n of facilities, the length of a name in
  * bytes, the width of a facility in bits. With room for LXT_MOST_FACILITIES pairs, LXT_LONGEST_NAME bytes of
- * names and LXT_WIDEST bytes of bits there is enough for every file. */
+ * names and LXT_WIDEST bytes of bits there is enough for every file. LXT_LONGEST_COLUMN is how many facility
+ * numbers a column asks for at most. */
 enum {
     LXT_SHORTEST_FILE = 6,
     LXT_LONGEST_FILE = 16777216,
     LXT_MOST_FACILITIES = 4096,
     LXT_LONGEST_NAME = 1023,
-    LXT_WIDEST = 4096
+    LXT_WIDEST = 4096,
+    LXT_LONGEST_COLUMN = 4096
 };
 
 /* What a function answers. docs/FORMAT.md has the rules behind each number, and an example. */
@@ -91,8 +93,9 @@ enum lxt_refusal {
     /* in the walk's record a pair has a wrong number, or a pending offset that is an alias's or from
        which the changes downwards break a rule of 15 or 16 */
     LXT_REFUSED_RECORD = 20,
-    /* too little room was lent: names need 1,023 bytes, bits the width, a record a pair for each
-       facility, an output two numbers for each change */
+    /* too little room was lent: names need 1,023 bytes, bits the width, a column all widths together
+       and an item for each number, a record a pair for each facility, an output two numbers for each
+       change */
     LXT_REFUSED_ROOM = 21,
     /* the asked bytes are not one for each facility */
     LXT_REFUSED_ASKED = 22,
@@ -100,7 +103,9 @@ enum lxt_refusal {
        bytes */
     LXT_REFUSED_WRITER_INPUT = 24,
     /* the file that is to be written has more bytes than the room that was lent */
-    LXT_REFUSED_WRITER_ROOM = 25
+    LXT_REFUSED_WRITER_ROOM = 25,
+    /* a column asks for more than 4,096 facility numbers */
+    LXT_REFUSED_LONG_COLUMN = 35
 };
 
 /* Padding is the bits of a change's last data byte that no symbol uses: symbols fill whole bytes. It is clean
@@ -179,9 +184,16 @@ uint32_t lxt_change_before(const uint8_t *file, size_t length, uint32_t facility
  * Bits and integers have symbols, LXT_SYMBOLS in ASCII, and need a room of their width or more; bytes of bits
  * past the width stay, and all of them for a real or a text. A real's number as a double is
  * memcpy(&real, &value.number, 8). Texts are any bytes but 0. Not driven is a real or a text that has no
- * change up to the time; bits and integers have the initial symbol at every place then, and lxt_text_at
- * answers a lent text in place of one that is not driven. */
-enum lxt_what { LXT_IS_BITS = 0, LXT_IS_REAL = 1, LXT_IS_TEXT = 2, LXT_NOT_DRIVEN = 3 };
+ * change up to the time; bits and integers have the initial symbol at every place then, and lxt_text_at and
+ * lxt_column answer a lent text in place of one that is not driven. LXT_IS_LENT_TEXT is that text, and only
+ * in an item of a column. */
+enum lxt_what {
+    LXT_IS_BITS = 0,
+    LXT_IS_REAL = 1,
+    LXT_IS_TEXT = 2,
+    LXT_NOT_DRIVEN = 3,
+    LXT_IS_LENT_TEXT = 4
+};
 
 typedef struct {
     uint64_t what; /* an enum lxt_what */
@@ -236,6 +248,74 @@ typedef struct {
  * part stays as it was. */
 uint32_t lxt_text_at(const uint8_t *file, size_t length, uint32_t facility, int64_t time,
                      const uint8_t *text, size_t text_length, lxt_part *part);
+
+/* One item of a column: what it is, and its place or its number by what it is. What is not named is 0.
+ *
+ *     what               start                   length                            real
+ *     LXT_IS_BITS        of the symbols, in      the width: so many symbols        0
+ *                        the lent bits
+ *     LXT_IS_REAL        0                       0                                 the 64 bits of a
+ *                                                                                  binary64
+ *     LXT_IS_TEXT        of the text, in         its length in bytes, without      0
+ *                        the file                the zero behind it
+ *     LXT_NOT_DRIVEN     0                       0                                 0
+ *     LXT_IS_LENT_TEXT   0                       that of the whole lent text       0
+ */
+typedef struct {
+    uint64_t what;   /* an enum lxt_what */
+    uint64_t start;  /* bits: in the lent bits; a text in the file: there; else 0 */
+    uint64_t length; /* bits: the width; a text: its bytes, in the file or of the lent one; else 0 */
+    uint64_t real;   /* the 64 bits of a real; else 0 */
+} lxt_item;
+
+/* A column: the values of many facilities at one time, as lxt_value_at and lxt_text_at answer them one by one,
+ * with the file judged once. This prints those of all n facilities, where n is facilities of lxt_judge's
+ * summary:
+ *
+ *     static uint32_t all[LXT_LONGEST_COLUMN];
+ *     static lxt_item items[LXT_LONGEST_COLUMN];
+ *     static uint8_t bits[(size_t)LXT_LONGEST_COLUMN * LXT_WIDEST];
+ *     uint64_t visited;
+ *     for (uint32_t i = 0; i < n; i++)
+ *         all[i] = i;
+ *     uint32_t refused = lxt_column(file, length, time, all, n, text, text_length, bits, sizeof bits, items,
+ *                                   LXT_LONGEST_COLUMN, &visited);
+ *     for (uint32_t i = 0; !refused && i < n; i++) {
+ *         const lxt_item *item = &items[i];
+ *         if (item->what == LXT_IS_BITS)
+ *             show_symbols(bits + item->start, item->length);
+ *         else if (item->what == LXT_IS_REAL)
+ *             show_real(item->real);
+ *         else if (item->what == LXT_NOT_DRIVEN)
+ *             show_nothing();
+ *         else
+ *             show_text((item->what == LXT_IS_TEXT ? file : text) + item->start, item->length);
+ *     }
+ *
+ * The list may have any order, and a number may stand in it more than once: items are in the order of the
+ * list, one for each number. The symbols of bits and integers lie one after the other from the start of bits,
+ * in that order too, each item with its own. Reals and texts take no bytes there. An alias is asked as its
+ * root.
+ *
+ * Before its first change a real is not driven, and a text is the whole lent text, by lxt_text_at's rule. That
+ * is any bytes, zeros too, of any length, and may lie in the file; its bytes are not read.
+ *
+ * visited is what lxt_value_at would count for each item, all together.
+ *
+ * room counts bytes and items_room items. LXT_WIDEST bytes for each number of the list are always enough.
+ * Only the widths are touched, so the rest of a large buffer costs nothing where the system gives memory when
+ * it is first used. Bytes of bits past the widths and items past count stay. An empty list needs no room, of
+ * a file without facilities too.
+ *
+ * After the file's refusals: 35 where count is above LXT_LONGEST_COLUMN, 18 where a number of the list is not
+ * below n, whatever the room, and 21 where room is below the sum of the widths, or items_room below count. Where
+ * it refuses, bits, items and visited stay as they were.
+ *
+ * It takes the time of judging, of one pass over the times, of one down the changes of each root that is asked
+ * for, however often it is, and of what is written. */
+uint32_t lxt_column(const uint8_t *file, size_t length, int64_t time, const uint32_t *facilities, size_t count,
+                    const uint8_t *text, size_t text_length, uint8_t *bits, size_t room, lxt_item *items,
+                    size_t items_room, uint64_t *visited);
 
 /* The walk: all changes of the facilities asked for, the highest offset first, in calls of any size. All
  * changes of all facilities, where n is facilities of lxt_judge's summary:

@@ -19,6 +19,7 @@ use lxt_reader::names;
 use lxt_reader::texts;
 use lxt_reader::values;
 
+pub mod column;
 pub mod walk;
 pub mod write;
 

@@ -20,6 +20,8 @@ use Rattle.lxt_format.specs.declared.TimedValue.{TimedValue}
 use Rattle.lxt_format.specs.declared.Lookup.{Lookup}
 use Rattle.lxt_format.specs.declared.TextAnswer.{TextAnswer}
 use Rattle.lxt_format.specs.declared.TextAnswer.the-variants as ofText
+use Rattle.lxt_format.specs.declared.ColumnAnswer.{ColumnAnswer}
+use Rattle.lxt_format.specs.declared.ColumnAnswer.the-variants as ofColumn
 use Rattle.lxt_format.specs.declared.StartAnswer.{StartAnswer}
 use Rattle.lxt_format.specs.declared.StartAnswer.the-variants as ofStart
 use Rattle.lxt_format.specs.declared.CarryAnswer.{CarryAnswer}
@@ -79,6 +81,11 @@ textSays (ofText.File start size) = given (inFile start size)
 textSays (ofText.Lent size) = given (lentText size)
 textSays ofText.OtherKind = given otherKind
 textSays (ofText.Refused n) = refused n
+
+-- how many changes were visited for all items of a column together
+abbrev pub columnSays : ColumnAnswer → Answer ℕ
+columnSays (ofColumn.Given visited) = given visited
+columnSays (ofColumn.Refused n) = refused n
 
 abbrev pub startSays : StartAnswer → Answer (Unit {0})
 startSays ofStart.Started = given tt

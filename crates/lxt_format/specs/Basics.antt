@@ -1,5 +1,5 @@
 -- What the definitions are written with: a choice, answers and refusals, and lists of numbers.
-use Prim.Native.Nat.{ℕ, zero, suc}
+use Prim.Native.Nat.{ℕ, zero, suc, _+_}
 use mathlib.Core.Bool.{Bool, true, false, _&&_, _||_}
 use mathlib.Core.List.{List, [], _∷_, _++_}
 use lib.Dec.{eqb}
@@ -58,6 +58,11 @@ select p (x ∷ l) = if p x then x ∷ select p l else select p l
 unfoldable pub joined : {A B : Type 0} → (A → List B) → List A → List B
 joined f [] = []
 joined f (x ∷ l) = f x ++ joined f l
+
+-- the numbers that f gives, added up
+unfoldable pub total : {A : Type 0} → (A → ℕ) → List A → ℕ
+total f [] = 0
+total f (x ∷ l) = f x + total f l
 
 -- the first number that is not 0, or 0
 unfoldable pub firstFault : List ℕ → ℕ

@@ -43,3 +43,5 @@ pub mod Visited
 pub mod VisitedLaws
 pub mod LentText
 pub mod LentTextLaws
+pub mod ValueColumn
+pub mod ValueColumnLaws

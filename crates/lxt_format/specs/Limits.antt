@@ -21,6 +21,10 @@ longestName = 1023
 abbrev pub widestFacility : ℕ
 widestFacility = 4096
 
+-- paper 02, Ask 4: "up to 4,096 facility numbers", a limit of the list alone
+abbrev pub longestColumn : ℕ
+longestColumn = 4096
+
 -- paper 02, Ask 1: "All times become signed 64-bit numbers", from -2 ^ 63 to 2 ^ 63 - 1
 abbrev pub leastTime : ℤ
 leastTime = negsuc 9223372036854775807

@@ -2,13 +2,14 @@
 -- "Every call judges the file first, except carrying on: it does checks 1 to 14, then 20 to 21."
 use Prim.Native.Nat.{ℕ, _+_, _*_, _-_}
 use mathlib.Core.Bool.{Bool, _&&_}
-use mathlib.Core.List.{List, [], _++_}
+use mathlib.Core.List.{List, [], _∷_, _++_, map}
 use lib.ListN.{length, drop, replicate}
 use lib.Seq.{slice}
 use lib.IntN.{ℤ, pos}
 use lib.Dec.{ltb, leb, eqb}
-use Rattle.lxt_format.specs.Limits.{longestName}
-use Rattle.lxt_format.specs.Basics.{if_then_else_, _unless_, _orElse_, Answer, given, refused, answer, lentAfter, any}
+use Rattle.lxt_format.specs.Limits.{longestName, longestColumn}
+use Rattle.lxt_format.specs.Basics.{if_then_else_, _unless_, _orElse_, Answer, given, refused, answer, lentAfter, any, joined, total, firstFault}
+use Rattle.lxt_format.specs.Columns.{onto}
 use Rattle.lxt_format.specs.Sections.{facilityCount}
 use Rattle.lxt_format.specs.Names.{nameOf}
 use Rattle.lxt_format.specs.Geometry.{rootOf, factsOf, syncOf}
@@ -16,7 +17,7 @@ use Rattle.lxt_format.specs.Times.{timeOf}
 use Rattle.lxt_format.specs.Changes.{chainOf, previousOf, cleanAt}
 use Rattle.lxt_format.specs.Values.{Content, bits, real, text, notDriven, contentOf, visitedAt, contentAt, TextSource, inFile, lentText, otherKind, textAt}
 use Rattle.lxt_format.specs.Judge.{tablesRefusal, fileRefusal, signalOf}
-use Rattle.lxt_format.specs.Answers.{shown, Timed, LookedUp}
+use Rattle.lxt_format.specs.Answers.{Shown, bitsOf, realOf, textOf, nothing, shown, Timed, LookedUp}
 use Rattle.lxt_format.specs.Walk.{startOffsets, withOffsets, offsetsOf, recordAllowed, high, handedOut, offsetsAfter, flat}
 use Rattle.lxt_format.specs.declared.Facts.{Facts}
 use Rattle.lxt_format.specs.declared.Pair.{Pair}
@@ -137,6 +138,60 @@ placeBy file lent (given (inFile start size)) = (file .0, file .1 + start)
 placeBy file lent (given (lentText size)) = lent
 placeBy file lent (given otherKind) = lent
 placeBy file lent (refused n) = lent
+
+-- ---- a column: paper 02, Ask 4. "Give, at one time, the values for up to 4,096 facility numbers, repeats allowed, in list order."
+
+-- 21: "too little room: .. bits the width", here the widths of all items together
+unfoldable pub widthsOf : List ℕ → List ℕ → ℕ
+widthsOf s asked = total (λ f. factsOf s f .width) asked
+
+-- "A longer list is refusal 35, tested right after the file. Then the first refused number's refusal is given, then 21 for lack of room."
+unfoldable pub columnRefusal : List ℕ → List ℕ → ℕ → ℕ → ℕ
+columnRefusal s asked room records =
+    fileRefusal s
+    orElse 35 unless leb (length asked) longestColumn
+    orElse firstFault (map (facilityRefusal s) asked)
+    orElse 21 unless (leb (widthsOf s asked) room && leb (length asked) records)
+
+-- "Bits lie one after the other in one lent buffer."
+unfoldable pub columnBits : List ℕ → ℤ → List ℕ → List ℕ
+columnBits s t asked = joined (λ f. written (contentAt s (rootOf s f) t)) asked
+
+-- "A record per item holds its answer: for bits their start there and the width, else the real number, the text's place or "not driven"." It is four numbers:
+-- what the answer is; where the bits or the text start; how many symbols or bytes these are; the 64 bits of a real. Those that are not said are 0.
+unfoldable pub recordOf : ℕ → Shown → List ℕ
+recordOf start (bitsOf width) = 0 ∷ start ∷ width ∷ 0 ∷ []
+recordOf start (realOf x b) = 1 ∷ 0 ∷ 0 ∷ b ∷ []
+recordOf start (textOf from size) = 2 ∷ from ∷ size ∷ 0 ∷ []
+recordOf start nothing = 3 ∷ 0 ∷ 0 ∷ 0 ∷ []
+
+-- Ask 11: "Ask 4's column takes one such text, and its text places say which": 2 in the file, 4 the lent one
+unfoldable pub recordBy : ℕ → Shown → TextSource → List ℕ
+recordBy start value (inFile from size) = 2 ∷ from ∷ size ∷ 0 ∷ []
+recordBy start value (lentText size) = 4 ∷ 0 ∷ size ∷ 0 ∷ []
+recordBy start value otherKind = recordOf start value
+
+-- the records of items whose bits start at `start`, with a lent text of so many bytes
+unfoldable pub columnRecords : List ℕ → ℤ → ℕ → ℕ → List ℕ → List (List ℕ)
+columnRecords s t lent start [] = []
+columnRecords s t lent start (f ∷ fs) =
+    let value : Content = contentAt s (rootOf s f) t in
+    recordBy start (shown value) (textAt s (rootOf s f) t lent) ∷ columnRecords s t lent (start + length (written value)) fs
+
+-- Ask 7: "Ask 4's column has one sum"
+unfoldable pub columnVisited : List ℕ → ℤ → List ℕ → ℕ
+columnVisited s t asked = total (λ f. visitedAt s (rootOf s f) t) asked
+
+unfoldable pub columnAsked : List ℕ → ℤ → List ℕ → ℕ → ℕ → Answer ℕ
+columnAsked s t asked room records = answer (columnRefusal s asked room records) (columnVisited s t asked)
+
+-- "Bytes and records past these stay."
+unfoldable pub columnBuffer : List ℕ → ℤ → List ℕ → List ℕ → ℕ → List ℕ
+columnBuffer s t asked buffer records = lentAfter (columnRefusal s asked (length buffer) records) (onto (columnBits s t asked) buffer) buffer
+
+unfoldable pub columnOutput : List ℕ → ℤ → List ℕ → ℕ → ℕ → List (List ℕ) → List (List ℕ)
+columnOutput s t asked lent room records =
+    lentAfter (columnRefusal s asked room (length records)) (onto (columnRecords s t lent 0 asked) records) records
 
 -- ---- start a walk
 

@@ -4,7 +4,7 @@ ghost use mathlib.Core.Path.{_≡_};
 ghost use mathlib.Core.Bool.{_&&_};
 ghost use Prim.Native.Nat.{_-_};
 ghost use lib.Dec.{leb};
-ghost use Rattle.lxt_format.specs.Limits.{shortestFile, longestFile, mostFacilities, longestName, widestFacility};
+ghost use Rattle.lxt_format.specs.Limits.{shortestFile, longestFile, mostFacilities, longestName, widestFacility, longestColumn};
 
 // A file, by its length in bytes.
 pub struct File {
@@ -183,6 +183,28 @@ pub enum TextAnswer {
     Lent { length: usize },
     // The values of the facility are no texts.
     OtherKind,
+    Refused(u8),
+}
+
+// The facility numbers that a column is asked for, by how many they are.
+pub struct ColumnList {
+    pub length: usize,
+}
+
+impl ColumnList {
+    pub const LONGEST: usize = 4_096;
+
+    // Check 35.
+    pub fn length_is_allowed(self) -> bool
+        ensures { λ r. ⌜ r ≡ leb (self .length) longestColumn ⌝ }
+    {
+        self.length <= ColumnList::LONGEST
+    }
+}
+
+// A column: how many changes were visited for all of its items together.
+pub enum ColumnAnswer {
+    Given { visited: u64 },
     Refused(u8),
 }
 

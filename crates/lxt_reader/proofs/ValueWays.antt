@@ -1,34 +1,32 @@
 -- A law for each way out of the questions on values.
-use Prim.Native.Nat.{ℕ, _+_, _≤_, _<_}
+use Prim.Native.Nat.{ℕ, _≤_, _<_}
 use mathlib.Core.Path.{_≡_, refl, sym, _∙_}
 use mathlib.Core.Bool.{Bool}
-use mathlib.Core.List.{List, _++_}
+use mathlib.Core.List.{List}
 use lib.IntN.{ℤ}
 use lib.Signed.{mag}
 use mir.Syntax.{w64}
 use mir.Val.{toZ, ofZ}
 use mir.ValLaws.{toZ-ofZ}
-use lib.ListN.{length, drop, replicate, length-replicate}
+use lib.ListN.{length}
 use lib.Dec.{ltb, eqb, lit<}
 use native.Mathlib.Omega.{arith}
 use borrow.Author.Tests.{ne-eqb, le-leb, lt-leb, ltb-true, eqb-false}
 use Rattle.lxt_format.specs.Basics.{_unless_, Answer, given, any}
 use Rattle.lxt_format.specs.BasicsLaws.{neither, kept, stops}
-use Rattle.lxt_format.specs.Sections.{facilityCount, initialOf}
+use Rattle.lxt_format.specs.Sections.{facilityCount}
 use Rattle.lxt_format.specs.Geometry.{rootOf, factsOf}
 use Rattle.lxt_format.specs.Times.{timeOf}
 use Rattle.lxt_format.specs.BiasedTimes.{bias}
 use Rattle.lxt_format.specs.Changes.{signal, chainOf, cleanAt}
 use Rattle.lxt_format.specs.ChangesLaws.{Sound}
-use Rattle.lxt_format.specs.Values.{Content, bits, symbolOf, contentBy, contentOf, latestAt, changeAt, visitedIn, visitedAt, initialBy, contentAt}
-use Rattle.lxt_format.specs.Answers.{Shown, bitsOf, nothing, shown, Timed, timedSays, LookedUp, lookupSays}
-use Rattle.lxt_format.specs.Questions.{written, holdingBits, facilityRefusal, changeRefusal, readingRefusal, changeAsked, changeBuffer, valueRefusal, valueAsked, valueBuffer, chainAsked}
+use Rattle.lxt_format.specs.Values.{Content, contentBy, contentOf, latestAt, changeAt, visitedIn, visitedAt, contentAt}
+use Rattle.lxt_format.specs.Answers.{Shown, shown, Timed, timedSays, LookedUp, lookupSays}
+use Rattle.lxt_format.specs.Questions.{holdingBits, facilityRefusal, changeRefusal, readingRefusal, changeAsked, changeBuffer, valueRefusal, valueAsked, valueBuffer, chainAsked}
 use Rattle.lxt_format.specs.Judge.{signalBy, signalOf, fileRefusal, faultFrom}
 use Rattle.lxt_format.specs.VisitedLaws.{visited-most}
 use Rattle.lxt_format.specs.declared.TimedValue.{TimedValue}
 use Rattle.lxt_format.specs.declared.Lookup.{Lookup}
-use Rattle.lxt_format.specs.declared.Kind.{Kind}
-use Rattle.lxt_format.specs.declared.Kind.the-variants.{Bits, Integer, Real, Text}
 use Rattle.lxt_values.specs.Reals.{order-places}
 use Rattle.lxt_values.specs.Times as Ti
 use Rattle.lxt_values.specs.Times.{Readable}
@@ -41,41 +39,9 @@ use Rattle.lxt_changes.proofs.PaddingLaws.{sound-inside}
 use Rattle.lxt_format.specs.Limits.{widestFacility}
 use Rattle.lxt_reader.specs.Changing.{Followed, Chained, Looked}
 use Rattle.lxt_reader.specs.declared.changes.Chain.{Chain}
-use Rattle.lxt_values.specs.Value.{Readies}
-use Rattle.lxt_reader.specs.Reading.{startContent, notRead, notFound}
-
--- ---- before the first change
-
-filled : (width x : ℕ) (before after : List ℕ) → after ≡ replicate width x ++ drop width before
-    → (given (bitsOf width) ≡ given (shown (bits (replicate width x)))) × (after ≡ holdingBits (bits (replicate width x)) before)
-unfolding holdingBits written
-filled width x before after h = (rw (length-replicate width x), h ∙ rw (length-replicate width x))
-
-module _ (kind : Kind) (width code : ℕ) where
-  pub bits-start : kind ≡ Bits → (x : ℕ) → x ≡ symbolOf code → (before after : List ℕ) → after ≡ replicate width x ++ drop width before
-      → (given (bitsOf width) ≡ given (shown (startContent kind width code))) × (after ≡ holdingBits (startContent kind width code) before)
-  unfolding startContent
-  bits-start e x ex before after h = rw (e, ← ex) (filled width x before after h)
-
-  pub integer-start : kind ≡ Integer → (x : ℕ) → x ≡ symbolOf code → (before after : List ℕ) → after ≡ replicate width x ++ drop width before
-      → (given (bitsOf width) ≡ given (shown (startContent kind width code))) × (after ≡ holdingBits (startContent kind width code) before)
-  unfolding startContent
-  integer-start e x ex before after h = rw (e, ← ex) (filled width x before after h)
-
-  pub real-start : kind ≡ Real → (before : List ℕ) → (given nothing ≡ given (shown (startContent kind width code))) × (before ≡ holdingBits (startContent kind width code) before)
-  unfolding startContent holdingBits written
-  real-start e before = (rw e, rw e)
-
-  pub text-start : kind ≡ Text → (before : List ℕ) → (given nothing ≡ given (shown (startContent kind width code))) × (before ≡ holdingBits (startContent kind width code) before)
-  unfolding startContent holdingBits written
-  text-start e before = (rw e, rw e)
-
-start-is : (s : List ℕ) (kind : Kind) (width : ℕ) → startContent kind width (initialOf s) ≡ initialBy s kind width
-unfolding startContent initialBy
-start-is s Bits width = refl
-start-is s Integer width = refl
-start-is s Real width = refl
-start-is s Text width = refl
+use Rattle.lxt_values.specs.Value.{contentFrom, Readies, Shows}
+use Rattle.lxt_values.proofs.StartLaws.{content-at}
+use Rattle.lxt_reader.specs.Reading.{notRead, notFound}
 
 -- ---- a chain that was asked about
 
@@ -246,25 +212,19 @@ module _ (s : List ℕ) (f : ℕ) (t : ℤ) (buffer : List ℕ) (c : Chain) (w :
           let g : factsOf s f .width ≤ length buffer = rw (w .followed h .facts) at room in
           (rw (fine, le-leb _ _ g, ev, ec, visited-is s f t c w h o visited found), ea ∙ rw (fine, le-leb _ _ g, ec))
 
-      pub value-start : o ≡ 0 → (v : Answer Shown) (after : List ℕ) → v ≡ given (shown (startContent (c .facts .kind) (c .facts .width) (c .tables .initial)))
-          → after ≡ holdingBits (startContent (c .facts .kind) (c .facts .width) (c .tables .initial)) buffer
+      pub value-shows : Shows s (c .tables .end) (c .tables .order) (c .facts .kind) (c .facts .width) o (length buffer)
+      value-shows =
+          record {
+            enough = room;
+            ready = λ some. readies s f c (w .tables) fine (w .followed h) o (length buffer) (latest-fine s f t c w h o visited found some) room;
+          }
+
+      pub value-given : (v : Answer Shown) (after : List ℕ) → v ≡ given (shown (contentFrom s (c .tables .initial) (c .facts .kind) (c .facts .width) o))
+          → after ≡ holdingBits (contentFrom s (c .tables .initial) (c .facts .kind) (c .facts .width) o) buffer
           → (_≡_ {A = LookedUp} (record { value = v; visited = visited }) (valueAsked s f t (length buffer))) × (after ≡ valueBuffer s f t buffer)
-      unfolding contentAt factsOf
-      value-start z v after ev ea =
+      unfolding factsOf
+      value-given v after ev ea =
           let k = tables-are s f c (w .tables) fine (w .followed h) in
-          let a : startContent (c .facts .kind) (c .facts .width) (c .tables .initial) ≡ initialBy s (c .facts .kind) (c .facts .width) =
-          rw (k .initial) (start-is s (c .facts .kind) (c .facts .width)) in
-          let b : initialBy s (c .facts .kind) (c .facts .width) ≡ contentAt s (rootOf s f) t = rw (w .followed h .facts, ← at-change, z) in
-          value-is (startContent (c .facts .kind) (c .facts .width) (c .tables .initial)) (a ∙ b) v after ev ea
-
-      module _ (some : o ≡ 0 → ⊥) where
-        pub value-readies : Readies s (c .tables .end) (c .tables .order) (c .facts .kind) (c .facts .width) o (length buffer)
-        value-readies = readies s f c (w .tables) fine (w .followed h) o (length buffer) (latest-fine s f t c w h o visited found some) room
-
-        pub value-given : (v : Answer Shown) (after : List ℕ) → v ≡ given (shown (contentBy s (c .facts .kind) (c .facts .width) o))
-            → after ≡ holdingBits (contentBy s (c .facts .kind) (c .facts .width) o) buffer
-            → (_≡_ {A = LookedUp} (record { value = v; visited = visited }) (valueAsked s f t (length buffer))) × (after ≡ valueBuffer s f t buffer)
-        unfolding contentAt
-        value-given v after ev ea =
-            value-is (contentBy s (c .facts .kind) (c .facts .width) o)
-            (content-is s f c (w .tables) fine (w .followed h) o ∙ rw (← at-change) (sym (simp (ne-eqb o 0 some)))) v after ev ea
+          let is : contentFrom s (c .tables .initial) (c .facts .kind) (c .facts .width) o ≡ contentAt s (rootOf s f) t =
+          rw (k .initial, w .followed h .facts) (content-at s (rootOf s f) t o at-change) in
+          value-is (contentFrom s (c .tables .initial) (c .facts .kind) (c .facts .width) o) is v after ev ea

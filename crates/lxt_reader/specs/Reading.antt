@@ -2,23 +2,14 @@
 use Prim.Native.Nat.{ℕ, _+_, _≤_, _<_}
 use mathlib.Core.Bool.{false}
 use mathlib.Core.List.{List}
-use lib.ListN.{length, replicate}
+use lib.ListN.{length}
 use lib.Seq.{slice}
 use lib.IntN.{pos}
 use Rattle.lxt_format.specs.Basics.{refused}
 use Rattle.lxt_format.specs.Bytes.{toZero}
 use Rattle.lxt_format.specs.Changes.{dataAt}
 use Rattle.lxt_format.specs.Answers.{Timed, LookedUp}
-use Rattle.lxt_format.specs.Values.{Content, bits, notDriven, symbolOf, TextSource, inFile}
-use Rattle.lxt_format.specs.declared.Kind.{Kind}
-use Rattle.lxt_format.specs.declared.Kind.the-variants.{Bits, Integer, Real, Text}
-
--- what a facility shows before its first change, by the code of the initial symbol
-unfoldable pub startContent : Kind → ℕ → ℕ → Content
-startContent Bits width code = bits (replicate width (symbolOf code))
-startContent Integer width code = bits (replicate width (symbolOf code))
-startContent Real width code = notDriven
-startContent Text width code = notDriven
+use Rattle.lxt_format.specs.Values.{TextSource, inFile}
 
 -- the answer of a change that is refused
 abbrev pub notRead : ℕ → Timed

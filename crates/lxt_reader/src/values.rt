@@ -1,39 +1,16 @@
 // The values of changes, and the value at a time.
 ghost use mathlib.Core.Path.{_≡_};
-ghost use Prim.Native.Nat.{_≤_};
 ghost use lib.ListN.{length};
-ghost use Rattle.lxt_format.specs.Basics.{given};
-ghost use Rattle.lxt_format.specs.Answers.{shown, valueSays, timedSays, lookupSays};
-ghost use Rattle.lxt_format.specs.Questions.{holdingBits, changeAsked, changeBuffer, valueAsked, valueBuffer};
-ghost use Rattle.lxt_reader.specs.Reading.{startContent, notRead, notFound};
+ghost use Rattle.lxt_format.specs.Answers.{timedSays, lookupSays};
+ghost use Rattle.lxt_format.specs.Questions.{changeAsked, changeBuffer, valueAsked, valueBuffer};
+ghost use Rattle.lxt_reader.specs.Reading.{notRead, notFound};
 use crate::changes;
 use lxt_changes::padding::is_clean;
-use lxt_format::Kind;
 use lxt_format::Lookup;
 use lxt_format::TimedValue;
 use lxt_format::Value;
-use lxt_values::symbols;
 use lxt_values::times;
-use lxt_values::value::read;
-
-// What a facility shows before its first change: the initial symbol at every place, or nothing.
-fn initial(kind: Kind, width: u32, code: u8, bits: &mut [u8]) -> Value
-    requires { ⌜ width ≤ length (now bits) ⌝ }
-    ensures { λ r. ⌜ (valueSays r ≡ given (shown (startContent kind width code))) × (now (bits .exit) ≡ holdingBits (startContent kind width code) (now (bits .entry))) ⌝ }
-{
-    match kind {
-        Kind::Bits => {
-            symbols::fill(width, symbols::symbol_of(code), bits);
-            Value::Bits { width: width }
-        }
-        Kind::Integer => {
-            symbols::fill(width, symbols::symbol_of(code), bits);
-            Value::Bits { width: width }
-        }
-        Kind::Real => Value::NotDriven,
-        Kind::Text => Value::NotDriven,
-    }
-}
+use lxt_values::value;
 
 fn no_change(n: u8) -> TimedValue
     ensures { λ r. ⌜ timedSays r ≡ notRead n ⌝ }
@@ -63,7 +40,7 @@ pub fn of_change(file: &[u8], facility: u32, offset: u32, bits: &mut [u8]) -> Ti
     let o = offset as usize;
     let time = times::time_of(file, t.times as usize, t.time_count, t.wide_times, o);
     let clean = is_clean(file, kind, facts.width, o);
-    let value = read(file, t.end, order, kind, facts.width, o, bits);
+    let value = value::read(file, t.end, order, kind, facts.width, o, bits);
     TimedValue { time, value, clean }
 }
 
@@ -100,11 +77,16 @@ pub fn at_time(file: &[u8], facility: u32, time: i64, bits: &mut [u8]) -> Lookup
         time,
     );
     let visited = found.visited as u32;
-    if found.offset == 0 {
-        let value = initial(kind, shape.width, t.initial, bits);
-        return Lookup { value, visited };
-    }
     let order = t.order;
-    let value = read(file, t.end, order, kind, shape.width, found.offset, bits);
+    let value = value::at(
+        file,
+        t.end,
+        order,
+        t.initial,
+        kind,
+        shape.width,
+        found.offset,
+        bits,
+    );
     Lookup { value, visited }
 }

@@ -66,8 +66,11 @@ module _ (y : ℤ) (b : Bits y) where
 -- ---- a time that is asked for
 
 module _ (s : List ℕ) (t : ℤ) (f : SFits w64 t) where
-  pub limit-at : (x P : ℕ) → x ≡ biased (toZ w64 (ofZ w64 t)) → Limit s (unbiased x) P → Limit s (toZ w64 (ofZ w64 t)) P
-  limit-at x P e h = let same : unbiased x ≡ toZ w64 (ofZ w64 t) = ap unbiased (e ∙ ap biased (back t f)) ∙ (unbiased-biased t (f .sfits) ∙ sym (back t f)) in rw same at h
+  pub limit-at : (x P : ℕ) → x ≡ biased (toZ w64 (ofZ w64 t)) → Limit s (unbiased x) P → Limit s t P
+  limit-at x P e h = let same : unbiased x ≡ t = ap unbiased (e ∙ ap biased (back t f)) ∙ unbiased-biased t (f .sfits) in rw same at h
+
+  pub limit-asked : (P : ℕ) → Limit s (toZ w64 (ofZ w64 t)) P → Limit s t P
+  limit-asked P h = rw (back t f) at h
 
   pub latest-at : (r visited from : ℕ)
       → (r ≡ latestAt s (toZ w64 (ofZ w64 t)) (chainOf s from)) × (visited ≡ visitedIn s (toZ w64 (ofZ w64 t)) (chainOf s from))

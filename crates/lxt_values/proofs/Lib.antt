@@ -11,3 +11,4 @@ pub mod NameLaws
 pub mod EntryLaws
 pub mod ReadLaws
 pub mod BiasLaws
+pub mod StartLaws

@@ -1,6 +1,6 @@
--- The laws of times: the time of a change, the limit of a time, and the latest change below it.
+-- The laws of times: the time of a change, the limit of a time, and the latest change, the first one below it.
 use Prim.Native.Nat.{ℕ, zero, suc, _+_, _≤_, _<_}
-use mathlib.Core.Path.{_≡_, refl, sym, _∙_}
+use mathlib.Core.Path.{_≡_, refl, sym, _∙_, ap}
 use mathlib.Core.Bool.{Bool, true, false}
 use mathlib.Core.List.{List, [], _∷_}
 use lib.ListN.{length, getD}
@@ -10,7 +10,7 @@ use lib.Dec.{leb, ltb}
 use native.Mathlib.Omega.{arith}
 use native.Mathlib.Decide.{decLe, ℕ-discrete}
 use borrow.Author.Tests.{le-leb, lt-leb, lt-ltb, le-ltb, ne-eqb, eq-eqb}
-use Rattle.lxt_format.specs.BasicsLaws.{on-test}
+use Rattle.lxt_format.specs.BasicsLaws.{on-test, on-zero}
 use Rattle.lxt_format.specs.Sections.{timeCount}
 use Rattle.lxt_format.specs.Times.{positionsOf, timesOf, timeOf}
 use Rattle.lxt_format.specs.TimesLaws.{positions-never-fall, Decides, entry-0-decides, length-times, decider}
@@ -19,7 +19,7 @@ use Rattle.lxt_format.specs.Changes.{dataAt, previousOf, chainWithin, chainOf}
 use Rattle.lxt_format.specs.ChangesLaws.{previous-lt, chain-none, chain-more}
 use Rattle.lxt_format.specs.Values.{latestAt, visitedIn}
 use Rattle.lxt_format.specs.VisitedLaws.{none-visited, visited-passed, visited-answered}
-use Rattle.lxt_values.specs.Times.{Times, Limit, Readable, change}
+use Rattle.lxt_values.specs.Times.{Times, Limit, Readable, change, firstBelow, visitedTo}
 use Rattle.lxt_values.specs.Entries.{EntryAt}
 use Rattle.lxt_values.proofs.EntryLaws.{table, some-entry, tells}
 
@@ -177,24 +177,26 @@ latest-passed : (s : List ℕ) (t : ℤ) (o : ℕ) (os : List ℕ) → leZ (time
 unfolding latestAt
 latest-passed s t o os e = rw e
 
--- the latest change from o on is the latest from `from` on; `visited` changes lie above o, and with those that are visited from o on they are all
-pub record Falling (s : List ℕ) (t : ℤ) (from o visited : ℕ) : Type 0 where
+-- ---- the first change below a limit
+
+-- the first change below the limit P from o on is the first from `from` on; `visited` changes lie above o, and with those that are visited from o on they are all
+pub record Falling (s : List ℕ) (P from o visited : ℕ) : Type 0 where
   pub readable : Readable s (chainOf s o)
-  pub left : latestAt s t (chainOf s o) ≡ latestAt s t (chainOf s from)
-  pub counted : visited + visitedIn s t (chainOf s o) ≡ visitedIn s t (chainOf s from)
+  pub left : firstBelow P (chainOf s o) ≡ firstBelow P (chainOf s from)
+  pub counted : visited + visitedTo P (chainOf s o) ≡ visitedTo P (chainOf s from)
   pub above : visited + o ≤ from
 
 -- at the start of the chain
-pub falling-begun : (s : List ℕ) (t : ℤ) (from : ℕ) → Readable s (chainOf s from) → Falling s t from from 0
-falling-begun s t from r = record { readable = r; left = refl; counted = omega arith; above = omega arith }
+pub falling-begun : (s : List ℕ) (P from : ℕ) → Readable s (chainOf s from) → Falling s P from from 0
+falling-begun s P from r = record { readable = r; left = refl; counted = omega arith; above = omega arith }
 
-module _ (s : List ℕ) (t : ℤ) (from o visited : ℕ) (w : Falling s t from o visited) where
+module _ (s : List ℕ) (P from o visited : ℕ) (w : Falling s P from o visited) where
   -- the chain ends
-  pub chain-ended : o ≡ 0 → (0 ≡ latestAt s t (chainOf s from)) × (visited ≡ visitedIn s t (chainOf s from))
-  unfolding latestAt
+  pub chain-ended : o ≡ 0 → (0 ≡ firstBelow P (chainOf s from)) × (visited ≡ visitedTo P (chainOf s from))
+  unfolding firstBelow visitedTo
   chain-ended e =
-      let none : visitedIn s t (chainOf s o) ≡ 0 = rw (e, chain-none s) (none-visited s t) in
-      ((rw (e, chain-none s) at (w .left)), omega (arith, w .counted))
+      let counted : visited + 0 ≡ visitedTo P (chainOf s from) = rw (e, chain-none s) at (w .counted) in
+      ((rw (e, chain-none s) at (w .left)), omega (arith, counted))
 
   module _ (n : o ≡ 0 → ⊥) where
     -- the change at o, and those before it
@@ -205,30 +207,81 @@ module _ (s : List ℕ) (t : ℤ) (from o visited : ℕ) (w : Falling s t from o
     pub change-readable : (o < length s) × (dataAt s o ≤ length s)
     change-readable = head-readable (rw more at (w .readable))
 
-    module _ (P : ℕ) (limit : Limit s t P) where
-      -- a change below the limit, and so are all that follow
-      pub first-below : o < P → (o ≡ latestAt s t (chainOf s from)) × (visited + 1 ≡ visitedIn s t (chainOf s from))
-      first-below h = (found ∙ w .left, omega (arith, w .counted, visited-answered s t o (omega arith) found low))
-        where
-          low : (p : ℕ) → p ≤ o → leZ (timeOf s p) t ≡ true
-          low p l = limit .below p (omega (arith, change-readable .0)) ∙ lt-ltb p P (omega arith)
+    -- a change below the limit
+    pub first-below : o < P → (o ≡ firstBelow P (chainOf s from)) × (visited + 1 ≡ visitedTo P (chainOf s from))
+    unfolding firstBelow visitedTo
+    first-below h = (simp (more, lt-ltb o P h) at (w .left), simp (more, lt-ltb o P h) at (w .counted))
 
-          found : o ≡ latestAt s t (chainOf s o)
-          found =
-              let le = latest-le s t (previousOf s o) in
-              let lt = previous-lt s o (omega arith) in
-              rw more (latest-taken s t o (chainOf s (previousOf s o)) (low o (omega arith)) (omega arith))
+    -- a change that is not below it
+    pub falling-turn : P ≤ o → (p : ℕ) → p ≡ previousOf s o → Falling s P from p (visited + 1)
+    unfolding firstBelow visitedTo
+    falling-turn h p e =
+        let counted : visited + suc (visitedTo P (chainOf s (previousOf s o))) ≡ visitedTo P (chainOf s from) = simp (more, le-ltb o P h) at (w .counted) in
+        let lt = previous-lt s o (omega arith) in
+        record {
+          readable = rw e (tail-readable (rw more at (w .readable)));
+          left = rw e (simp (more, le-ltb o P h) at (w .left));
+          counted = rw e (omega (arith, counted));
+          above = omega (arith, w .above);
+        }
 
-      -- a change that is not below it
-      pub falling-turn : P ≤ o → (p : ℕ) → p ≡ previousOf s o → Falling s t from p (visited + 1)
-      falling-turn h p e =
-          let high : leZ (timeOf s o) t ≡ false = limit .below o (change-readable .0) ∙ le-ltb o P h in
-          let rest = chainOf s (previousOf s o) in
-          let passed : visitedIn s t (chainOf s o) ≡ suc (visitedIn s t rest) = rw more (visited-passed s t o rest high) in
-          let lt = previous-lt s o (omega arith) in
-          record {
-            readable = rw e (tail-readable (rw more at (w .readable)));
-            left = rw e (latest-passed s t o rest high ∙ rw (← more) (w .left));
-            counted = rw e (omega (arith, w .counted));
-            above = omega (arith, w .above);
-          }
+-- ---- the latest change at a time is the first below its limit
+
+module _ (s : List ℕ) (t : ℤ) (P : ℕ) (limit : Limit s t P) where
+  -- what is found on the chain from o on
+  abbrev Latest : ℕ → Type 0
+  Latest o = (firstBelow P (chainOf s o) ≡ latestAt s t (chainOf s o)) × (visitedTo P (chainOf s o) ≡ visitedIn s t (chainOf s o))
+
+  none : (o : ℕ) → o ≡ 0 → Latest o
+  unfolding firstBelow visitedTo latestAt
+  none o e = rw (e, chain-none s) (refl, sym (none-visited s t))
+
+  module _ (o : ℕ) (some : 0 < o) (inside : o < length s) where
+    -- a change below the limit, and so are all that follow
+    low-found : o < P → Latest o
+    unfolding firstBelow visitedTo
+    low-found h = (first ∙ found, counted ∙ sym (visited-answered s t o some found low))
+      where
+        low : (p : ℕ) → p ≤ o → leZ (timeOf s p) t ≡ true
+        low p l = limit .below p (omega arith) ∙ lt-ltb p P (omega arith)
+
+        found : o ≡ latestAt s t (chainOf s o)
+        found =
+            let le = latest-le s t (previousOf s o) in
+            let lt = previous-lt s o some in
+            rw (chain-more s o some) (latest-taken s t o (chainOf s (previousOf s o)) (low o (omega arith)) (omega arith))
+
+        first : firstBelow P (chainOf s o) ≡ o
+        first = rw (chain-more s o some) (simp (lt-ltb o P h))
+
+        counted : visitedTo P (chainOf s o) ≡ 1
+        counted = rw (chain-more s o some) (simp (lt-ltb o P h))
+
+    -- a change that is not below it
+    high-passed : P ≤ o → Latest (previousOf s o) → Latest o
+    unfolding firstBelow visitedTo
+    high-passed h l =
+        let late : leZ (timeOf s o) t ≡ false = limit .below o inside ∙ le-ltb o P h in
+        let passed = latest-passed s t o (chainOf s (previousOf s o)) late in
+        let count = visited-passed s t o (chainOf s (previousOf s o)) late in
+        rw (chain-more s o some) (simp (le-ltb o P h) (l .0 ∙ passed, ap suc (l .1) ∙ sym count))
+
+  pub latest-below : (k o : ℕ) → o ≤ k → Readable s (chainOf s o) → Latest o
+  latest-below zero o h r = none o (omega arith)
+  latest-below (suc k) o h r =
+      on-zero o (none o)
+      (λ some. let parts : Readable s (o ∷ chainOf s (previousOf s o)) = rw (chain-more s o some) at r in
+      let inside = head-readable parts .0 in
+      let lt = previous-lt s o some in
+      elim (decLe P o) [
+        | yes l ↦ high-passed o some inside l (latest-below k (previousOf s o) (omega arith) (tail-readable parts))
+        | no l ↦ low-found o some inside (omega arith)
+      ])
+
+-- by one whose limit was found
+pub latest-found : (s : List ℕ) (t : ℤ) (P from offset visited : ℕ) → Limit s t P → Readable s (chainOf s from)
+    → (offset ≡ firstBelow P (chainOf s from)) × (visited ≡ visitedTo P (chainOf s from))
+    → (offset ≡ latestAt s t (chainOf s from)) × (visited ≡ visitedIn s t (chainOf s from))
+latest-found s t P from offset visited limit r found =
+    let l = latest-below s t P limit from from (omega arith) r in
+    (found .0 ∙ l .0, found .1 ∙ l .1)

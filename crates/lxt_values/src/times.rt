@@ -4,7 +4,7 @@ ghost use Rattle.lxt_format.specs.Times.{timeOf};
 ghost use Rattle.lxt_format.specs.BiasedTimes.{biased, unbiased};
 ghost use Rattle.lxt_format.specs.Changes.{chainOf};
 ghost use Rattle.lxt_format.specs.Values.{latestAt, visitedIn};
-ghost use Rattle.lxt_values.specs.Times.{Times, Limit, Readable};
+ghost use Rattle.lxt_values.specs.Times.{Times, Limit, Readable, firstBelow, visitedTo};
 use crate::entries;
 use lxt_changes::delta;
 use lxt_sections::times::BIAS;
@@ -83,14 +83,20 @@ pub struct Found {
     pub visited: usize,
 }
 
-// The latest change of the chain from `from` on with a time of at most `t`, if there is one: the chain
-// falls, so that it is the first one below the limit. All changes up to it are visited, and all of the
-// chain where there is none.
-pub fn latest(file: &[u8], times: usize, m: u32, wide: bool, from: usize, t: i64) -> Found
-    requires { ⌜ Times (now file) times m wide × Readable (now file) (chainOf (now file) from) ⌝ }
-    ensures { λ r. ⌜ (r .offset ≡ latestAt (now (file .entry)) t (chainOf (now (file .entry)) from)) × (r .visited ≡ visitedIn (now (file .entry)) t (chainOf (now (file .entry)) from)) ⌝ }
+// The same by the time itself.
+pub fn limit_at(file: &[u8], times: usize, m: u32, wide: bool, t: i64) -> usize
+    requires { ⌜ Times (now file) times m wide ⌝ }
+    ensures { λ r. ⌜ Limit (now (file .entry)) t r ⌝ }
 {
-    let end = limit(file, times, m, wide, with_bias(t));
+    limit(file, times, m, wide, with_bias(t))
+}
+
+// The first change below the limit `end` on the chain from `from` on, if there is one. All changes down to it are
+// visited, and all of the chain where there is none.
+pub fn first_below(file: &[u8], from: usize, end: usize) -> Found
+    requires { ⌜ Readable (now file) (chainOf (now file) from) ⌝ }
+    ensures { λ r. ⌜ (r .offset ≡ firstBelow end (chainOf (now (file .entry)) from)) × (r .visited ≡ visitedTo end (chainOf (now (file .entry)) from)) ⌝ }
+{
     let mut o = from;
     let mut visited: usize = 0;
     while o != 0 {
@@ -101,4 +107,14 @@ pub fn latest(file: &[u8], times: usize, m: u32, wide: bool, from: usize, t: i64
         o = delta::previous(file, o);
     }
     Found { offset: 0, visited }
+}
+
+// The latest change of the chain from `from` on with a time of at most `t`, if there is one: the chain
+// falls, so that it is the first one below the limit.
+pub fn latest(file: &[u8], times: usize, m: u32, wide: bool, from: usize, t: i64) -> Found
+    requires { ⌜ Times (now file) times m wide × Readable (now file) (chainOf (now file) from) ⌝ }
+    ensures { λ r. ⌜ (r .offset ≡ latestAt (now (file .entry)) t (chainOf (now (file .entry)) from)) × (r .visited ≡ visitedIn (now (file .entry)) t (chainOf (now (file .entry)) from)) ⌝ }
+{
+    let end = limit_at(file, times, m, wide, t);
+    first_below(file, from, end)
 }

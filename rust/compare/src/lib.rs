@@ -3,6 +3,7 @@
 
 #![forbid(unsafe_code)]
 
+pub mod column;
 pub mod judge;
 pub mod overlays;
 pub mod questions;
@@ -61,8 +62,8 @@ pub const MADE: [Making; 4] = [
     ("aliases", lxt_generate::aliases),
 ];
 
-/// The twelve calls.
-pub const CALLS: [&str; 12] = [
+/// The thirteen calls.
+pub const CALLS: [&str; 13] = [
     "judge",
     "stray",
     "facts",
@@ -72,6 +73,7 @@ pub const CALLS: [&str; 12] = [
     "change",
     "value_at",
     "text_at",
+    "column",
     "start",
     "carry on",
     "write",
@@ -90,6 +92,7 @@ pub fn can_refuse(call: &str, number: u8) -> bool {
         "judge" | "stray" => &[],
         "facts" | "root" | "text_at" => &[18],
         "name" | "value_at" => &[18, 21],
+        "column" => &[18, 21, 35],
         "change_before" => &[18, 19],
         "change" => &[18, 19, 21],
         "start" => &[21, 22],
@@ -107,6 +110,7 @@ pub struct Compared {
     judged: judge::Seen,
     stray: stray::Seen,
     questions: questions::Seen,
+    columns: column::Seen,
     walks: walk::Seen,
     written: write::Seen,
 }
@@ -133,6 +137,7 @@ impl Compared {
         judge::compare(file, what, &mut self.judged);
         let _ = stray::compare(file, what, &mut self.stray);
         questions::compare(file, what, most, &mut self.questions);
+        column::compare(file, what, &mut self.columns);
         walk::start_refusals(file, what, &mut self.walks);
         if file.len() <= 30_000 {
             walk::whole_walks(file, what, &mut self.walks);
@@ -155,7 +160,10 @@ impl Compared {
         let stray = stray.map(|(number, count)| ("stray", *number, *count));
         let written = self.written.answers.iter();
         let written = written.map(|(number, count)| ("write", *number, *count));
+        let columns = self.columns.answers();
+        let columns = columns.map(|(number, count)| ("column", number, count));
         let others = self.questions.answers().chain(self.walks.answers());
+        let others = others.chain(columns);
         for (call, number, count) in judged.chain(stray).chain(others).chain(written) {
             *answers.entry((call, number)).or_default() += count;
         }
@@ -221,6 +229,11 @@ impl Compared {
             ("texts asked of another kind, driven", driven),
             ("texts asked of another kind, not driven", undriven),
         ]
+    }
+
+    /// How many columns and items of each sort were met.
+    pub fn columns(&self) -> impl Iterator<Item = (&'static str, u64)> + '_ {
+        self.columns.met()
     }
 
     /// How many times 64-bit times were met: accepted files with them, and times outside 32 bits.

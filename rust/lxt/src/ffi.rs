@@ -6,11 +6,11 @@
 //! - **Declared alike**: the declarations are those of the header, argument for argument.
 //! - **Valid**: a pointer is to memory that can be read, and written where it is not `const`, during the
 //!   whole call. Each one comes from a slice, an array or a reference that is borrowed for the call.
-//! - **Length**: the length beside a pointer counts the objects behind it, bytes, pairs, numbers or rows. Both
+//! - **Length**: the length beside a pointer counts the objects behind it, bytes, pairs, items, numbers or rows. Both
 //!   come from one slice. That of an empty slice is no null pointer, and nothing is behind it.
 //! - **Fixed sizes**: a pointer without a length is to one object of its type, a number or a struct.
 //! - **Aligned**: a pointer is aligned as its type is, and no more. Rust's slices and references are, and
-//!   [`Pair`], [`NewFacility`], [`NewChange`] and the structs of [`c`] have the layout of C's.
+//!   [`Pair`], [`Item`], [`NewFacility`], [`NewChange`] and the structs of [`c`] have the layout of C's.
 //! - **No overlap**: nothing that is written is reached by another pointer. Each such pointer comes from
 //!   a `&mut`, which Rust gives to nothing else at the time:
 //!
@@ -21,11 +21,11 @@
 //! - **Nothing kept**: no pointer is used after the call, and calls share no memory but what both were
 //!   lent, so they can be made from any thread.
 
-use crate::{NewChange, NewFacility, Pair};
+use crate::{Item, NewChange, NewFacility, Pair};
 
 /// The header in Rust: its structs, field for field, and its functions.
 pub(crate) mod c {
-    use crate::{NewChange, NewFacility, Pair};
+    use crate::{Item, NewChange, NewFacility, Pair};
 
     #[repr(C)]
     #[derive(Clone, Copy, Debug, Default, PartialEq, Eq)]
@@ -109,6 +109,20 @@ pub(crate) mod c {
             text: *const u8,
             text_length: usize,
             part: *mut Part,
+        ) -> u32;
+        pub fn lxt_column(
+            file: *const u8,
+            length: usize,
+            time: i64,
+            facilities: *const u32,
+            count: usize,
+            text: *const u8,
+            text_length: usize,
+            bits: *mut u8,
+            room: usize,
+            items: *mut Item,
+            items_room: usize,
+            visited: *mut u64,
         ) -> u32;
         pub fn lxt_facts(
             file: *const u8,
@@ -266,6 +280,37 @@ pub(crate) fn text_at(
             text.as_ptr(),
             text.len(),
             part as *mut c::Part,
+        )
+    }
+}
+
+/// The values of a list of facilities at a time, as items, their symbols in the lent bits, and how many changes
+/// were visited in all; 0 or the refusal's number.
+pub(crate) fn column(
+    file: &[u8],
+    time: i64,
+    facilities: &[u32],
+    text: &[u8],
+    bits: &mut [u8],
+    items: &mut [Item],
+    visited: &mut u64,
+) -> u32 {
+    // SAFETY: the pointers and lengths of the five slices are their own, an item has the layout of C's, and
+    // the three `&mut` are not aliased.
+    unsafe {
+        c::lxt_column(
+            file.as_ptr(),
+            file.len(),
+            time,
+            facilities.as_ptr(),
+            facilities.len(),
+            text.as_ptr(),
+            text.len(),
+            bits.as_mut_ptr(),
+            bits.len(),
+            items.as_mut_ptr(),
+            items.len(),
+            visited as *mut u64,
         )
     }
 }

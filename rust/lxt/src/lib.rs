@@ -13,10 +13,11 @@
 //!     for change in trace.walk_all()? {
 //!         changes[change.facility as usize] += 1;
 //!     }
-//!     for facility in trace.facilities() {
+//!     // The values of all facilities at the time 100, with `none` for texts before their first change.
+//!     let all = Vec::from_iter(trace.facilities());
+//!     let column = trace.column(100, &all, b"none")?;
+//!     for ((facility, value), changes) in all.into_iter().zip(column.iter()).zip(changes) {
 //!         let name = trace.name(facility)?;
-//!         let value = trace.value_at(facility, 100)?.value;
-//!         let changes = changes[facility as usize];
 //!         println!("{} {value} {changes} changes", name.escape_ascii());
 //!     }
 //!     Ok(())
@@ -24,12 +25,12 @@
 //! ```
 //!
 //! Under it stand the functions of the C interface with slices for pointers: [`judge`], [`stray_bytes`],
-//! [`facts`], [`root`], [`name`], [`change_before`], [`change`], [`value_at`], [`text_at`], [`start_walk`],
-//! [`carry_on`] and [`write`](fn@write). They take any bytes, keep nothing between calls and allocate nothing.
-//! Each that reads judges the file anew, whatever was asked before; only `carry_on` checks less of it, its
-//! tables and the changes that are still to come. So many questions on one large file cost many times its
-//! judging, as docs/PERFORMANCE.md has it in figures: to read all changes of a large trace, walk, and do not ask
-//! for each of them.
+//! [`facts`], [`root`], [`name`], [`change_before`], [`change`], [`value_at`], [`text_at`], [`column`](fn@column),
+//! [`start_walk`], [`carry_on`] and [`write`](fn@write). They take any bytes, keep nothing between calls and
+//! allocate nothing. Each that reads judges the file anew, whatever was asked before; only `carry_on` checks less
+//! of it, its tables and the changes that are still to come. So many questions on one large file cost many times
+//! its judging, as docs/PERFORMANCE.md has it in figures: to read all changes of a large trace, walk, and do not
+//! ask for each of them; and for many facilities at one time, ask for a column, which judges once.
 //!
 //! All changes of a trace by these functions. A call of a walk reads again what is still to come, so
 //! the output has room for many:
@@ -57,12 +58,14 @@
 
 #![deny(unsafe_code)]
 
+mod column;
 #[allow(unsafe_code)]
 mod ffi;
 mod refusal;
 mod trace;
 mod writer;
 
+pub use column::{Column, ColumnValue};
 pub use refusal::Refusal;
 pub use trace::{Change, Reading, Trace, Walk};
 pub use writer::{NewValue, Rule, WriteError, Writer};
@@ -122,7 +125,8 @@ pub enum Value {
     Real { number: f64, bits: u64 },
     /// A text, which stands in the file from `start` on, without its zero.
     Text { start: u32, length: u32 },
-    /// A real or a text that has no change up to the time. In place of such a text, [`text_at`] answers a lent one.
+    /// A real or a text that has no change up to the time. In place of such a text, [`text_at`] and
+    /// [`column`](fn@column) answer a lent one.
     NotDriven,
 }
 
@@ -240,6 +244,57 @@ impl<'a> TextAt<'a, 'a> {
     }
 }
 
+/// One item of a column, laid out as in C. [`value`](Item::value) gives it as an enum.
+#[repr(C)]
+#[derive(Clone, Copy, Debug, Default, PartialEq, Eq)]
+pub struct Item {
+    /// 0 bits, 1 a real, 2 a text in the file, 3 not driven, 4 the lent text.
+    pub what: u64,
+    /// Of bits where their symbols start in the lent bits, of a text in the file where it starts there; else 0.
+    pub start: u64,
+    /// Of bits the width, of a text its length in bytes, in the file or of the lent one; else 0.
+    pub length: u64,
+    /// The 64 bits of a real; else 0.
+    pub real: u64,
+}
+
+/// What an [`Item`] of a column says.
+#[derive(Clone, Copy, Debug, PartialEq)]
+#[non_exhaustive]
+pub enum ItemValue {
+    /// The symbols `0 1 Z X H U W L -`, which stand in the lent bits from `start` on.
+    Bits { start: usize, width: usize },
+    /// A real, and its 64 bits, which also tell apart what `==` of `f64` does not.
+    Real { number: f64, bits: u64 },
+    /// A text, which stands in the file from `start` on, without its zero.
+    Text { start: usize, length: usize },
+    /// A text that has no change up to the time: the whole lent text, of this length.
+    LentText { length: usize },
+    /// A real that has no change up to the time.
+    NotDriven,
+}
+
+impl Item {
+    /// What the item says. An item that no column wrote may say anything, and is `NotDriven` where
+    /// [`what`](Item::what) is none of the five.
+    pub fn value(&self) -> ItemValue {
+        let (start, length) = (self.start as usize, self.length as usize);
+        match self.what {
+            0 => ItemValue::Bits {
+                start,
+                width: length,
+            },
+            1 => ItemValue::Real {
+                number: f64::from_bits(self.real),
+                bits: self.real,
+            },
+            2 => ItemValue::Text { start, length },
+            4 => ItemValue::LentText { length },
+            _ => ItemValue::NotDriven,
+        }
+    }
+}
+
 /// One pair of a walk's record, laid out as in C.
 #[repr(C)]
 #[derive(Clone, Copy, Debug, Default, PartialEq, Eq)]
@@ -293,6 +348,9 @@ pub const NAME_ROOM: usize = 1_023;
 
 /// The room that any value of bits has, in bytes.
 pub const WIDEST: usize = 4_096;
+
+/// The most facility numbers that a column asks for. With [`WIDEST`] bytes for each of them every column has room.
+pub const LONGEST_COLUMN: usize = 4_096;
 
 /// The facts of a facility; an alias answers its root's.
 ///
@@ -362,7 +420,8 @@ pub fn change(
 }
 
 /// The value of a facility at a time, which may be any: before the first change it is the initial one. Beside it
-/// stands how many changes were [visited](Lookup::visited).
+/// stands how many changes were [visited](Lookup::visited). For many facilities at one time there is
+/// [`column`](fn@column).
 ///
 /// Bits and integers need as many lent bytes as they are wide; other bytes stay.
 pub fn value_at(
@@ -408,6 +467,59 @@ pub fn text_at<'f, 't>(
         1 => TextAt::Lent(&text[start..][..length]),
         _ => TextAt::OtherKind,
     })
+}
+
+/// A column: the values of many facilities at one time, which may be any, with the file judged once. Answers how
+/// many changes were visited in all: what [`value_at`] counts for each item, together.
+///
+/// Items are in the order of the list, one for each number, and a number may stand there more than once. Each
+/// says what [`value_at`] answers, but for a text before its first change: that is the whole `text`, as by
+/// [`text_at`]. The symbols of bits and integers lie one after the other from the start of the lent bits, each
+/// item with its own. Bytes after them stay, and items after the list's.
+///
+/// A list of more than [`LONGEST_COLUMN`] numbers is [`Refusal::LongColumn`]. Then comes [`Refusal::NoFacility`],
+/// for any number of the list, and then [`Refusal::Room`] where the lent bits are fewer than all widths together,
+/// or the items fewer than the numbers. An empty list needs neither.
+///
+/// ```
+/// use lxt::{Item, ItemValue};
+///
+/// let file: &[u8] = include_bytes!("../../../traces/strings.gtkwave-export.unz.lxt");
+/// // Facility 0 is a bit, 2 a text: `hello` from the time 0 on.
+/// let list = [2, 0, 0];
+/// let (mut bits, mut items) = ([0; 2], [Item::default(); 3]);
+/// lxt::column(file, 0, &list, b"none", &mut bits, &mut items)?;
+/// let [ItemValue::Text { start, length }, one, other] = items.map(|it| it.value()) else {
+///     panic!("{items:?}");
+/// };
+/// assert_eq!(file[start..][..length], *b"hello");
+/// assert_eq!(one, ItemValue::Bits { start: 0, width: 1 });
+/// assert_eq!(other, ItemValue::Bits { start: 1, width: 1 });
+/// assert_eq!(bits[0], bits[1]);
+///
+/// lxt::column(file, -1, &list, b"none", &mut bits, &mut items)?;
+/// assert_eq!(items[0].value(), ItemValue::LentText { length: 4 });
+/// # Ok::<(), lxt::Refusal>(())
+/// ```
+pub fn column(
+    file: &[u8],
+    time: i64,
+    facilities: &[u32],
+    text: &[u8],
+    bits: &mut [u8],
+    items: &mut [Item],
+) -> Result<u64, Refusal> {
+    let mut visited = 0;
+    accepted(ffi::column(
+        file,
+        time,
+        facilities,
+        text,
+        bits,
+        items,
+        &mut visited,
+    ))?;
+    Ok(visited)
 }
 
 /// Starts a walk over the changes of the facilities whose asked byte is not 0; an alias asks for its

@@ -1,4 +1,4 @@
-//! The refusals: 1 to 22 of reading, 24 and 25 of writing.
+//! The refusals: 1 to 22 and 35 of reading, 24 and 25 of writing.
 
 use std::fmt;
 
@@ -6,10 +6,11 @@ use std::fmt;
 macro_rules! refusals {
     ($($number:literal $name:ident $words:literal)*) => {
         /// Why a call was refused: the first rule that the file, the question or what is to be written breaks, in
-        /// the order of the numbers. A refused call has changed nothing that was lent to it.
+        /// the order of the numbers, but that 35 comes right after the file. A refused call has changed nothing
+        /// that was lent to it.
         ///
-        /// 1 to 17 are about the file, 18 to 22 about the question, 24 and 25 about what is to be written. The
-        /// rules behind them, with an example of each, are in docs/FORMAT.md.
+        /// 1 to 17 are about the file, 18 to 22 and 35 about the question, 24 and 25 about what is to be written.
+        /// The rules behind them, with an example of each, are in docs/FORMAT.md.
         #[derive(Clone, Copy, Debug, PartialEq, Eq, Hash, PartialOrd, Ord)]
         #[repr(u8)]
         #[non_exhaustive]
@@ -55,19 +56,20 @@ refusals! {
     18 NoFacility "there is no facility of that number"
     19 NoChange "the facility has no change at that offset"
     20 Record "in the walk's record a pair has a wrong number, or a pending offset that is an alias's or from which the changes downwards break a rule of 15 or 16"
-    21 Room "too little room was lent: names need 1,023 bytes, bits the width, a record a pair for each facility, an output two numbers for each change"
+    21 Room "too little room was lent: names need 1,023 bytes, bits the width, a column all widths together and an item for each number, a record a pair for each facility, an output two numbers for each change"
     22 Asked "the asked bytes are not one for each facility"
     24 WriterInput "the input of the writer breaks a limit or a rule, or its file would have more than 16,777,216 bytes"
     25 WriterRoom "the file that is to be written has more bytes than the room that was lent"
+    35 LongColumn "a column asks for more than 4,096 facility numbers"
 }
 
 impl Refusal {
-    /// 1 to 22, 24 or 25.
+    /// 1 to 22, 24, 25 or 35.
     pub const fn number(self) -> u8 {
         self as u8
     }
 
-    /// The refusal of a number; none but for 1 to 22, 24 and 25.
+    /// The refusal of a number; none but for 1 to 22, 24, 25 and 35.
     pub fn of_number(number: u8) -> Option<Refusal> {
         let mut all = Refusal::ALL.iter().copied();
         all.find(|refusal| refusal.number() == number)
@@ -103,9 +105,9 @@ mod tests {
     use super::{accepted, Refusal};
 
     #[test]
-    fn the_numbers_are_1_to_22_and_24_and_25() {
+    fn the_numbers_are_1_to_22_and_24_and_25_and_35() {
         let numbers = Refusal::ALL.iter().map(|it| it.number());
-        let expected = (1..=22).chain([24, 25]);
+        let expected = (1..=22).chain([24, 25, 35]);
         assert_eq!(Vec::from_iter(numbers), Vec::from_iter(expected));
         for &refusal in Refusal::ALL {
             assert_eq!(Refusal::of_number(refusal.number()), Some(refusal));
@@ -113,7 +115,7 @@ mod tests {
             assert_eq!(refusal.is_of_file(), refusal <= Refusal::SharedByte);
         }
         assert_eq!(accepted(0), Ok(()));
-        for number in [0, 23, 26, 255] {
+        for number in [0, 23, 26, 34, 36, 255] {
             assert_eq!(Refusal::of_number(number), None);
         }
     }

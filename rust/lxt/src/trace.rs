@@ -4,15 +4,19 @@ use std::fmt;
 use std::iter::FusedIterator;
 use std::ops::Range;
 
-use crate::{Changed, Facts, Lookup, Pair, Refusal, Summary, TextAt, Value, NAME_ROOM, WIDEST};
+use crate::{
+    Changed, Column, ColumnValue, Facts, Item, Lookup, Pair, Refusal, Summary, TextAt, Value,
+    NAME_ROOM, WIDEST,
+};
 
 /// An accepted trace in lent bytes.
 ///
 /// It holds the bytes and the summary, no more. So each question is one call of a proved function, and
 /// that trusts nothing that was found before: it judges the whole file again, which costs as much as
 /// [`open`](Trace::open) did, in time that grows with the file's length and its number of changes. To
-/// read many changes, [walk](Trace::walk): a batch is one call. A call allocates nothing; only the
-/// vectors that are answered are on the heap.
+/// read many changes, [walk](Trace::walk): a batch is one call. To ask for many facilities at one time, ask for a
+/// [column](Trace::column): that is one call too. A call allocates nothing; only the vectors that are answered
+/// are on the heap.
 ///
 /// ```
 /// use lxt::Trace;
@@ -55,19 +59,20 @@ pub enum Reading<'a> {
     Real(f64),
     /// The bytes of a text in the file, without its zero.
     Text(&'a [u8]),
-    /// A real or a text that has no change up to the time. In place of such a text, [`Trace::text_at`] answers a
-    /// lent one.
+    /// A real or a text that has no change up to the time. In place of such a text, [`Trace::text_at`] and
+    /// [`Trace::column`] answer a lent one.
     NotDriven,
 }
 
 impl fmt::Display for Reading<'_> {
     fn fmt(&self, formatter: &mut fmt::Formatter<'_>) -> fmt::Result {
-        match self {
-            Reading::Bits(symbols) => formatter.pad(&symbols.escape_ascii().to_string()),
-            Reading::Real(number) => number.fmt(formatter),
-            Reading::Text(text) => formatter.pad(&format!("\"{}\"", text.escape_ascii())),
-            Reading::NotDriven => formatter.pad("not driven"),
-        }
+        let value = match self {
+            Reading::Bits(symbols) => ColumnValue::Bits(symbols),
+            Reading::Real(number) => ColumnValue::Real(*number),
+            Reading::Text(text) => ColumnValue::Text(text),
+            Reading::NotDriven => ColumnValue::NotDriven,
+        };
+        value.fmt(formatter)
     }
 }
 
@@ -234,6 +239,63 @@ impl<'a> Trace<'a> {
         text: &'t [u8],
     ) -> Result<TextAt<'a, 't>, Refusal> {
         crate::text_at(self.bytes, facility, time, text)
+    }
+
+    /// The values of many facilities at one time by one call, which judges the file once: a value for each number of
+    /// the list, in its order. A number may stand there more than once. Each is what
+    /// [`value_at`](Trace::value_at) answers, but that a text before its first change is the whole `text`, as by
+    /// [`text_at`](Trace::text_at).
+    ///
+    /// All facilities of a trace can be asked for at once; a list of more than
+    /// [`LONGEST_COLUMN`](crate::LONGEST_COLUMN) numbers is [`Refusal::LongColumn`], and a number not below n
+    /// [`Refusal::NoFacility`].
+    ///
+    /// For the call there is room for the widest value of each number, [`WIDEST`] bytes, which are zeros that the
+    /// allocator need not touch; the column keeps what is used.
+    ///
+    /// ```
+    /// use lxt::{ColumnValue, Trace};
+    ///
+    /// fn main() -> Result<(), Box<dyn std::error::Error>> {
+    ///     let bytes = std::fs::read("../../traces/strings.gtkwave-export.unz.lxt")?;
+    ///     let trace = Trace::open(&bytes)?;
+    ///     // Facility 0 is a bit, 2 a text: `hello` from the time 0 on.
+    ///     let column = trace.column(0, &[2, 0, 2], b"none")?;
+    ///     assert_eq!(column.len(), 3);
+    ///     assert_eq!(column.get(0), Some(ColumnValue::Text(b"hello")));
+    ///     assert_eq!(column.get(0), column.get(2));
+    ///     let before = trace.column(-1, &[2], b"none")?;
+    ///     assert_eq!(before.get(0), Some(ColumnValue::LentText(b"none")));
+    ///
+    ///     // All values of the trace at the time 5, as they are shown.
+    ///     let all = Vec::from_iter(trace.facilities());
+    ///     for (facility, value) in all.iter().zip(trace.column(5, &all, b"")?.iter()) {
+    ///         println!("{facility} is {value}");
+    ///     }
+    ///     Ok(())
+    /// }
+    /// ```
+    pub fn column<'t>(
+        &self,
+        time: i64,
+        facilities: &[u32],
+        text: &'t [u8],
+    ) -> Result<Column<'a, 't>, Refusal> {
+        Column::ask(self.bytes, time, facilities, text)
+    }
+
+    /// The same as items, with symbols written one after the other from the start of the lent bits, of which there
+    /// are as many as all widths together or more; the others stay. Answers how many changes were
+    /// [visited](Column::visited). [`column`](fn@crate::column) is the same call.
+    pub fn column_into(
+        &self,
+        time: i64,
+        facilities: &[u32],
+        text: &[u8],
+        bits: &mut [u8],
+        items: &mut [Item],
+    ) -> Result<u64, Refusal> {
+        crate::column(self.bytes, time, facilities, text, bits, items)
     }
 
     fn reading(&self, value: Value, bits: &[u8]) -> Reading<'a> {

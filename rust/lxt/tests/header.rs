@@ -10,15 +10,17 @@ use lxt_compare::judge::TRACE;
 use lxt_compare::times::small_trace_09;
 use lxt_compare::traces;
 use lxt_compare::write::examples;
-use lxt_reference::{Judged, TextAt, Value, Which};
+use lxt_reference::{Item, Judged, TextAt, Value, Which};
 
+#[allow(dead_code)]
 mod mixed;
 #[allow(dead_code)]
 mod padded;
 
-/// The example of the header: its lines have five spaces, and words for the reader after six or more.
-fn example(header: &str) -> String {
-    let from = header.find("The walk:").expect("the walk's comment");
+/// An example of the header, by how its comment starts: its lines have five spaces, and words for the reader after
+/// six or more.
+fn example(header: &str, start: &str, calls: &[&str]) -> String {
+    let from = header.find(start).expect("the comment");
     let comment = header[from..].split("*/").next().expect("its end");
     let lines = comment
         .lines()
@@ -32,7 +34,7 @@ fn example(header: &str) -> String {
         code += &line[..end];
         code.push('\n');
     }
-    assert!(code.contains("lxt_start_walk") && code.contains("lxt_carry_on"));
+    assert!(calls.iter().all(|call| code.contains(call)), "{code}");
     code
 }
 
@@ -45,7 +47,8 @@ fn pointer(header: &str) -> &str {
     line.expect("the line of the pointer")
 }
 
-/// Every question on each facility and its newest changes, then the header's walk, a line for each answer.
+/// Every question on each facility and its newest changes, then the header's column at two times, a line for each,
+/// and the header's walk, a line for each answer.
 const PROGRAM: &str = r#"
 #include "lxt.h"
 #include <stdio.h>
@@ -57,8 +60,29 @@ static void use(uint32_t number, uint32_t offset) {
 }
 
 static void walk(const uint8_t *file, size_t length, uint32_t n) {
-EXAMPLE
+WALK
     printf("walked %lu\n", (unsigned long)refused);
+}
+
+static void show_symbols(const uint8_t *symbols, uint64_t width) {
+    printf(" bits:%.*s", (int)width, (const char *)symbols);
+}
+
+static void show_real(uint64_t real) { printf(" real:%llu", (unsigned long long)real); }
+
+static void show_nothing(void) { printf(" nothing"); }
+
+static void show_text(const uint8_t *text, uint64_t length) {
+    uint64_t i;
+    printf(" text:");
+    for (i = 0; i < length; i++) printf("%02x", text[i]);
+}
+
+static void column(const uint8_t *file, size_t length, uint32_t n, int64_t time, const uint8_t *text,
+                   size_t text_length) {
+    printf("column");
+COLUMN
+    printf(" %lu %llu\n", (unsigned long)refused, (unsigned long long)visited);
 }
 
 static uint8_t names[LXT_LONGEST_NAME], bits[LXT_WIDEST];
@@ -82,7 +106,7 @@ static void show(const lxt_value *value) {
 }
 
 /* Which text it is, its start and length, and its bytes. */
-static void show_text(const uint8_t *file, const uint8_t *text, lxt_part part) {
+static void show_part(const uint8_t *file, const uint8_t *text, lxt_part part) {
     const uint8_t *at = POINTER;
     uint64_t i;
     switch (part.from) {
@@ -104,6 +128,9 @@ static const char *kind(uint32_t kind) {
     return "nothing";
 }
 
+static const int64_t times[] = {50, -1, 0, INT64_MIN, 4294967296, INT64_MAX};
+static const uint8_t text[] = {'n', 0, 'n', 'e'};
+
 int main(int count, char **words) {
     FILE *input = count > 1 ? fopen(words[1], "rb") : NULL;
     uint8_t *file = malloc(2000000);
@@ -123,8 +150,6 @@ int main(int count, char **words) {
            (unsigned long)summary.end, LXT_SYMBOLS[summary.initial], (unsigned long)summary.clean, timescale);
     if (lxt_stray(file, length, &stray) == LXT_ACCEPTED) printf("stray %lu\n", (unsigned long)stray);
     for (f = 0; f <= n && f < 40; f++) {
-        static const int64_t times[] = {50, -1, 0, INT64_MIN, 4294967296, INT64_MAX};
-        static const uint8_t text[] = {'n', 0, 'n', 'e'};
         uint32_t root, size, before, clean, visited, offset, count = 0;
         int64_t time;
         lxt_facility facts;
@@ -160,16 +185,18 @@ int main(int count, char **words) {
         printf("texts");
         for (count = 0; count < sizeof times / sizeof times[0]; count++) {
             lxt_text_at(file, length, f, times[count], text, sizeof text, &part);
-            show_text(file, text, part);
+            show_part(file, text, part);
         }
         printf("\n");
     }
+    column(file, length, n, times[0], text, sizeof text);
+    column(file, length, n, times[1], text, sizeof text);
     walk(file, length, n);
     return 0;
 }
 "#;
 
-/// The times that the program asks about, and the text that it lends.
+/// The times that the program asks about, the first two by columns too, and the text that it lends.
 const TIMES: [i64; 6] = [50, -1, 0, i64::MIN, 0x1_0000_0000, i64::MAX];
 const TEXT: &[u8] = b"n\0ne";
 
@@ -190,6 +217,35 @@ fn shown(file: &[u8], text: TextAt) -> String {
     let bytes = whole[start..][..length].iter();
     let digits = String::from_iter(bytes.map(|byte| format!("{byte:02x}")));
     format!("{which}:{start}:{length}:{digits}")
+}
+
+/// The line of a column: its items, 0 and how many changes were visited.
+fn column_line<T: AsRef<str>>(items: &[T], visited: u64) -> String {
+    let items = items.iter().map(|it| format!(" {}", it.as_ref()));
+    format!("column{} 0 {visited}\n", String::from_iter(items))
+}
+
+/// That of all facilities at a time, by the independent reader.
+fn whole_column(file: &[u8], judged: &Judged, time: i64) -> String {
+    let n = judged.summary().facilities;
+    let all = Vec::from_iter(0..n);
+    let (mut bits, mut items) = (vec![0; 4_096 * all.len()], vec![None; all.len()]);
+    let visited = judged.column(time, &all, TEXT, &mut bits, &mut items);
+    let digits = |text: &[u8]| String::from_iter(text.iter().map(|byte| format!("{byte:02x}")));
+    let items = items.into_iter().map(|item| match item.expect("an item") {
+        Item::Bits { start, width } => {
+            let symbols = &bits[start..][..width as usize];
+            format!("bits:{}", String::from_utf8_lossy(symbols))
+        }
+        Item::Real { bits } => format!("real:{bits}"),
+        Item::Text { start, length } => {
+            let text = &file[start as usize..][..length as usize];
+            format!("text:{}", digits(text))
+        }
+        Item::LentText { length } => format!("text:{}", digits(&TEXT[..length])),
+        Item::NotDriven => "nothing".to_string(),
+    });
+    column_line(&Vec::from_iter(items), visited.expect("a column"))
 }
 
 fn show(out: &mut String, value: Value, bits: &[u8]) {
@@ -243,6 +299,9 @@ fn expected(file: &[u8]) -> String {
         let texts = TIMES.map(|time| judged.text_at(facility, time, TEXT));
         out += &texts_line(texts.map(|it| shown(file, it.expect("an answer"))));
     }
+    for time in &TIMES[..2] {
+        out += &whole_column(file, &judged, *time);
+    }
     for (root, offset) in judged.full_list(&vec![1; n as usize]).expect("a list") {
         out += &format!("{root} {offset}\n");
     }
@@ -288,7 +347,10 @@ fn made(name: &str, compiler: &str, standard: &str, code: &str) -> PathBuf {
 #[test]
 fn a_c_program_answers_as_the_independent_reader() {
     let header = include_str!("../../../include/lxt.h");
-    let code = PROGRAM.replace("EXAMPLE\n", &example(header));
+    let walk = example(header, "The walk:", &["lxt_start_walk", "lxt_carry_on"]);
+    let column = example(header, "A column:", &["lxt_column"]);
+    let code = PROGRAM.replace("WALK\n", &walk);
+    let code = code.replace("COLUMN\n", &column);
     let code = code.replace("POINTER", pointer(header));
     let program = made("header", "cc", "-std=c99", &code);
     let mut compared = 0;
@@ -335,14 +397,21 @@ fn by_hand() -> [(&'static str, Vec<u8>, String); 5] {
         &newest("01Z"),
         "3 bits 2 0 2 four\n10 7 1 bits 3 -LW 0\n0 3 0 bits 3 01Z 0\n",
         &newest("-LW"),
-        "3 refused 789\n2 20\n1 17\n0 14\n2 10\n1 7\n0 4\nwalked 0\n",
+        "3 refused 789\n",
+        &column_line(&["bits:101", "bits:01Z", "bits:-LW"], 3),
+        &column_line(&["bits:XXX"; 3], 6),
+        "2 20\n1 17\n0 14\n2 10\n1 7\n0 4\nwalked 0\n",
     ];
     // 64-bit times: -5 and 5, and the least number and -1.
-    let small = |times: [&str; 2], lookups| {
+    let small = |times: [&str; 2], lookups: [(u32, &str); 6]| {
         let [newer, older] = times;
         let changes = format!("4 {newer} 1 bits 1 0 0\n0 {older} 1 bits 1 1 0\n");
         let head = "1 4 84 X 1 -9\nstray 0\n1 bits 0 0 0 a\n";
-        let tail = "1 refused 789\n0 6\n0 4\nwalked 0\n";
+        let [first, second, ..] = lookups.map(|(visited, symbol)| {
+            let item = format!("bits:{symbol}");
+            column_line(&[item], visited.into())
+        });
+        let tail = format!("1 refused 789\n{first}{second}0 6\n0 4\nwalked 0\n");
         format!("{head}{changes}{}{tail}", values(lookups))
     };
     let (least, most) = (i64::MIN, i64::MAX);
@@ -352,7 +421,9 @@ fn by_hand() -> [(&'static str, Vec<u8>, String); 5] {
     let stray = [
         "1 4 68 X 1 -9\nstray 2\n1 bits 0 0 0 a\n0 5 1 bits 1 0 0\n",
         &values([(1, "0"), (1, "X"), (1, "X"), (1, "X"), (1, "0"), (1, "0")]),
-        "1 refused 789\n0 6\nwalked 0\n",
+        "1 refused 789\n",
+        "column bits:0 0 1\ncolumn bits:X 0 1\n",
+        "0 6\nwalked 0\n",
     ];
     [
         ("mixed", mixed::file(), mixed_lines()),
@@ -391,7 +462,8 @@ fn mixed_lines() -> String {
     ];
     let bits = bits.concat();
     let real = "real 4609434218613702656 0";
-    let unchanged = format!("0 bits 32 {} 0", "Z".repeat(32));
+    let z = "Z".repeat(32);
+    let unchanged = format!("0 bits 32 {z} 0");
     let lines = [
         "5 4 198 Z 1 -9\nstray 0\n",
         &format!("3 bits 2 0 0 a\n{bits}"),
@@ -405,7 +477,10 @@ fn mixed_lines() -> String {
         "32 integer 31 0 4 i\n",
         &values(&unchanged, &unchanged),
         &no_texts,
-        "5 refused 789\n0 22\n1 12\n2 7\n0 4\nwalked 0\n",
+        "5 refused 789\n",
+        &format!("column bits:ZX1 real:4609434218613702656 text:6869 bits:ZX1 bits:{z} 0 4\n"),
+        &format!("column bits:ZZZ nothing text:6e006e65 bits:ZZZ bits:{z} 0 6\n"),
+        "0 22\n1 12\n2 7\n0 4\nwalked 0\n",
     ];
     lines.concat()
 }
@@ -439,6 +514,13 @@ FIELD(lxt_part, from, 0, 8);
 FIELD(lxt_part, start, 8, 8);
 FIELD(lxt_part, length, 16, 8);
 ASSERT(LXT_FROM_FILE == 0 && LXT_FROM_LENT == 1 && LXT_OTHER_KIND == 2);
+ASSERT(sizeof(lxt_item) == 4 * sizeof(uint64_t));
+FIELD(lxt_item, what, 0, 8);
+FIELD(lxt_item, start, 8, 8);
+FIELD(lxt_item, length, 16, 8);
+FIELD(lxt_item, real, 24, 8);
+ASSERT(LXT_IS_BITS == 0 && LXT_IS_REAL == 1 && LXT_IS_TEXT == 2 && LXT_NOT_DRIVEN == 3);
+ASSERT(LXT_IS_LENT_TEXT == 4);
 ASSERT(sizeof(lxt_handed) == 2 * sizeof(uint32_t));
 FIELD(lxt_handed, count, 0, 4);
 FIELD(lxt_handed, done, 4, 4);
@@ -458,6 +540,7 @@ FIELD(lxt_new_change, value_start, 8, 4);
 FIELD(lxt_new_change, value_length, 12, 4);
 ASSERT(LXT_SHORTEST_FILE == 6 && LXT_LONGEST_FILE == 16777216);
 ASSERT(LXT_MOST_FACILITIES == 4096 && LXT_LONGEST_NAME == 1023 && LXT_WIDEST == 4096);
+ASSERT(LXT_LONGEST_COLUMN == 4096 && LXT_REFUSED_LONG_COLUMN == 35);
 ASSERT(sizeof(LXT_SYMBOLS) == 9 + 1);
 
 uint32_t (*const stray)(const uint8_t *, size_t, uint32_t *) = lxt_stray;
@@ -468,6 +551,9 @@ uint32_t (*const value_at)(const uint8_t *, size_t, uint32_t, int64_t, uint8_t *
                            uint32_t *) = lxt_value_at;
 uint32_t (*const text_at)(const uint8_t *, size_t, uint32_t, int64_t, const uint8_t *, size_t,
                           lxt_part *) = lxt_text_at;
+/* A sum of visited changes has 64 bits. */
+uint32_t (*const column)(const uint8_t *, size_t, int64_t, const uint32_t *, size_t, const uint8_t *, size_t,
+                         uint8_t *, size_t, lxt_item *, size_t, uint64_t *) = lxt_column;
 uint32_t (*const write)(const lxt_new_facility *, size_t, const uint8_t *, size_t, const lxt_new_change *, size_t,
                         const uint8_t *, size_t, uint8_t, int8_t, uint8_t *, size_t, uint32_t *) = lxt_write;
 
@@ -515,6 +601,9 @@ static void all(const uint8_t *file, size_t length) {
     uint32_t one, clean, visited;
     lxt_pair pair = {0, 0};
     uint8_t asked = 1;
+    static const uint32_t list[LXT_LONGEST_COLUMN + 1] = {0};
+    lxt_item item = {6, 7, 8, 9};
+    uint64_t sum = 7;
     printf("%d", (int)lxt_judge(file, length, &summary, &timescale));
     printf(" %d", (int)lxt_stray(file, length, &one));
     printf(" %d", (int)lxt_facts(file, length, 0, &facts, &msb, &lsb));
@@ -525,6 +614,14 @@ static void all(const uint8_t *file, size_t length) {
     printf(" %d", (int)lxt_value_at(file, length, 0, INT64_MAX, NULL, 0, &value, &visited));
     printf(" %d", (int)lxt_text_at(file, length, 0, INT64_MAX, NULL, 0, &part));
     printf(":%d%d%d", (int)part.from, (int)part.start, (int)part.length);
+    printf(" %d", (int)lxt_column(file, length, 0, NULL, 0, NULL, 0, NULL, 0, NULL, 0, &sum));
+    printf(":%d", (int)sum);
+    sum = 7;
+    printf(" %d", (int)lxt_column(file, length, 0, list, 1, NULL, 0, NULL, 0, NULL, 0, &sum));
+    printf(" %d", (int)lxt_column(file, length, 0, list, 4096, NULL, 0, NULL, 0, NULL, 0, &sum));
+    printf(" %d", (int)lxt_column(file, length, 0, list, 4097, NULL, 0, NULL, 0, NULL, 0, &sum));
+    printf(" %d", (int)lxt_column(file, length, 0, list, 1, NULL, 0, NULL, 0, &item, 1, &sum));
+    printf(":%d%d%d%d:%d", (int)item.what, (int)item.start, (int)item.length, (int)item.real, (int)sum);
     printf(" %d", (int)lxt_start_walk(file, length, NULL, 0, NULL, 0));
     printf(" %d", (int)lxt_start_walk(file, length, NULL, 0, &pair, 1));
     printf(" %d", (int)lxt_start_walk(file, length, &asked, 1, NULL, 0));
@@ -567,10 +664,10 @@ fn a_null_pointer_with_length_0_is_an_empty_slice() {
     let ran = command.output().expect("a run");
     assert!(ran.status.success(), "{:?}", ran.status);
     let expected = [
-        "1 1 1 1 1 1 1 1 1:789 1 1 1 1 1 1",
-        "0 0 0 0 21 0 21 21 0:200 21 22 21 21 0 21",
-        "0 0 18 18 18 18 18 18 18:789 0 0 22 0 0 21",
-        "0 0 0 0 21 19 19 0 0:100 21 22 21 21 0 21",
+        "1 1 1 1 1 1 1 1 1:789 1:7 1 1 1 1:6789:7 1 1 1 1 1 1",
+        "0 0 0 0 21 0 21 21 0:200 0:0 21 21 35 21:6789:7 21 22 21 21 0 21",
+        "0 0 18 18 18 18 18 18 18:789 0:0 18 18 35 18:6789:7 0 0 22 0 0 21",
+        "0 0 0 0 21 19 19 0 0:100 0:0 21 21 35 0:4000:0 21 22 21 21 0 21",
     ];
     let printed = String::from_utf8_lossy(&ran.stdout);
     assert_eq!(Vec::from_iter(printed.lines()), expected);

@@ -1,6 +1,6 @@
 //! Which refusals the compared calls give: every one that a call can give, and no other; that padding is
 //! both clean and dirty, that there are stray bytes and none, that zero deltas and 64-bit times show, that texts are
-//! of the file and lent, and that inputs of all kinds are written.
+//! of the file and lent, that columns have items of every sort, and that inputs of all kinds are written.
 
 use std::collections::BTreeSet;
 
@@ -21,7 +21,7 @@ fn each_call_gives_every_refusal_that_it_can_and_no_other() {
     for call in CALLS {
         let count = |number: u8| answers.get(&(call, number)).copied().unwrap_or(0);
         let counts = Vec::from_iter((0..=u8::MAX).map(count));
-        println!("{call:>13} {:?}", &counts[..=25]);
+        println!("{call:>13} {:?}", &counts[..=35]);
         assert!(counts[0] >= 1_000, "{call} was answered {}", counts[0]);
         for number in 1..=u8::MAX {
             let count = counts[usize::from(number)];
@@ -34,7 +34,8 @@ fn each_call_gives_every_refusal_that_it_can_and_no_other() {
             }
         }
     }
-    assert_eq!(given, BTreeSet::from_iter((1..=22).chain([24, 25])));
+    let expected = (1..=22).chain([24, 25, 35]);
+    assert_eq!(given, BTreeSet::from_iter(expected));
     // And both answers about padding, of judging and of changes.
     for (call, counts) in compared.padding() {
         println!("{call:>13} padding {counts:?}");
@@ -46,7 +47,8 @@ fn each_call_gives_every_refusal_that_it_can_and_no_other() {
     let met = compared.stray().into_iter();
     let met = met.chain(compared.zero_deltas());
     let met = met.chain(compared.long_times());
-    for (what, count) in met.chain(compared.texts()) {
+    let met = met.chain(compared.texts());
+    for (what, count) in met.chain(compared.columns()) {
         println!("{count:>13} {what}");
         assert!(count >= 200, "{what}: {count}");
     }

@@ -277,24 +277,10 @@ fn other_kinds_driven_or_not() {
     }
 }
 
-/// The mixed trace with its facilities 3 and 4 as aliases of these.
-fn with_aliases(third: u8, fourth: u8) -> Vec<u8> {
-    let mut file = mixed::file();
-    for (facility, target) in [(3, third), (4, fourth)] {
-        let (geometry, sync) = (0x35 + 16 * facility, 0x85 + 4 * facility);
-        // The last bytes of the rows and of the flags.
-        file[geometry + 3] = target;
-        file[geometry + 15] = 8;
-        // An alias's own entry counts for nothing: here a change of the bits.
-        file[sync + 3] = 22;
-    }
-    file
-}
-
 #[test]
 fn an_alias_is_asked_as_its_root() {
     // An alias of the text, and an alias of that.
-    let file = with_aliases(2, 3);
+    let file = mixed::with_aliases(2, 3);
     let trace = Trace::open(&file).expect("an accepted trace");
     assert_eq!([2, 3, 4].map(|it| trace.root(it)), [Ok(2); 3]);
     for facility in [2, 3, 4] {
@@ -309,7 +295,7 @@ fn an_alias_is_asked_as_its_root() {
         }
     }
     // Aliases of the real and of the bits.
-    let file = with_aliases(1, 0);
+    let file = mixed::with_aliases(1, 0);
     let trace = Trace::open(&file).expect("an accepted trace");
     assert_eq!([3, 4].map(|it| trace.root(it)), [Ok(1), Ok(0)]);
     for facility in [3, 4] {

@@ -139,6 +139,7 @@ fn the_examples_are_refused_as_the_table_says() {
         "a walk with two asked bytes",
         "these changes written with a timescale of 3",
         "these changes written into 106 bytes: the file has 107",
+        "a column of 4,097 numbers",
     ];
     assert_eq!(examples[17..], expected);
     assert_eq!(lxt::root(&TRACE, 1), Err(Refusal::NoFacility));
@@ -154,9 +155,11 @@ fn the_examples_are_refused_as_the_table_says() {
     assert_eq!(name, Err(Refusal::Room));
     let started = lxt::start_walk(&TRACE, &[1, 1], &mut record);
     assert_eq!(started, Err(Refusal::Asked));
+    let column = lxt::column(&TRACE, 0, &[0; 4_097], b"", &mut [], &mut []);
+    assert_eq!(column, Err(Refusal::LongColumn));
 }
 
-/// The last two examples: the changes of the trace, which are written as they stand in it.
+/// The examples of 24 and 25: the changes of the trace, which are written as they stand in it.
 #[test]
 fn the_examples_of_writing_are_refused_as_the_table_says() {
     let [first, ..] = examples();

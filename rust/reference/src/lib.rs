@@ -1,10 +1,10 @@
-//! A plain reader and writer of LXT traces, written from the rules of paper 01 and Asks 1, 2, 5, 6, 7 and 11
+//! A plain reader and writer of LXT traces, written from the rules of paper 01 and Asks 1, 2, 4, 5, 6, 7 and 11
 //! of paper 02 alone, and from the definition of stray bytes that stands in `stray`.
 //!
 //! They exist to be compared, call by call, with others. So the reader follows the paper's order of
 //! checks, uses memory freely and judges the whole file again in every call. The writer is also what
-//! another is measured against: it is plain, and fast. A refusal is its number, 1 to 22 of the reader, 24 and 25
-//! of the writer, and changes nothing lent.
+//! another is measured against: it is plain, and fast. A refusal is its number, 1 to 22 and 35 of the reader, 24
+//! and 25 of the writer, and changes nothing lent.
 
 #![forbid(unsafe_code)]
 
@@ -22,7 +22,8 @@ mod tests;
 pub use chains::{previous_offset, Fault};
 pub use dump::dump;
 pub use questions::{
-    chains, change, change_before, facts, judge, name, root, spans, text_at, value_at, Judged,
+    chains, change, change_before, column, facts, judge, name, root, spans, text_at, value_at,
+    Judged,
 };
 pub use stray::stray_bytes;
 pub use walk::{carry_on, full_list, start_walk, Downwards, RecordFault, Tables};
@@ -37,6 +38,8 @@ pub const MOST_FACILITIES: u32 = 4_096;
 pub const LONGEST_NAME: usize = 1_023;
 /// The limit of a facility's width, in bits.
 pub const WIDEST_FACILITY: u32 = 4_096;
+/// The limit of the list of a column, in facility numbers (Ask 4).
+pub const LONGEST_COLUMN: usize = 4_096;
 /// The limit of the small program's input, in bytes.
 pub const LONGEST_INPUT: usize = 65_536;
 
@@ -121,4 +124,28 @@ pub struct TextAt {
     pub which: Which,
     pub start: usize,
     pub length: usize,
+}
+
+/// The answer of one item of a column (Asks 4 and 11). The symbols of `Bits` stand in the lent bits from `start`
+/// on.
+#[derive(Clone, Copy, Debug, PartialEq, Eq)]
+pub enum Item {
+    Bits {
+        start: usize,
+        width: u32,
+    },
+    Real {
+        bits: u64,
+    },
+    /// A text of the file, without its zero.
+    Text {
+        start: u32,
+        length: u32,
+    },
+    /// The text lent as the default.
+    LentText {
+        length: usize,
+    },
+    /// A real without a change up to the time.
+    NotDriven,
 }

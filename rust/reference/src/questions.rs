@@ -1,9 +1,12 @@
 //! What can be asked about a file, besides the walk. Every call judges the file first; after that
-//! the refusals are tested in the order 18, 19, 21.
+//! the refusals are tested in the order 35, 18, 19, 21.
 
 use crate::chains::{bits_a_symbol, read_chains, spans_of, Chains, Change};
 use crate::tables::{read_tables, Trace};
-use crate::{Changed, Facts, Kind, Lookup, Summary, TextAt, Value, Which, LONGEST_NAME, SYMBOLS};
+use crate::{
+    Changed, Facts, Item, Kind, Lookup, Summary, TextAt, Value, Which, LONGEST_COLUMN,
+    LONGEST_NAME, SYMBOLS,
+};
 
 /// A file that passed the checks 1 to 17. Its methods answer as the calls of the same name do,
 /// without judging the file again.
@@ -145,6 +148,71 @@ impl<'a> Judged<'a> {
         })
     }
 
+    /// Ask 4, with the text of Ask 11 and the sum of Ask 7: the values of a list of facilities at one time, a record
+    /// for each. Bits lie one after the other. A record that is not written is as it was; so are bytes past the
+    /// bits.
+    pub fn column(
+        &self,
+        time: i64,
+        facilities: &[u32],
+        text: &[u8],
+        bits: &mut [u8],
+        items: &mut [Option<Item>],
+    ) -> Result<u64, u8> {
+        if facilities.len() > LONGEST_COLUMN {
+            return Err(35);
+        }
+        // All numbers are tested before any room.
+        let numbers = facilities.iter().map(|number| self.facility(*number));
+        let numbers = numbers.collect::<Result<Vec<usize>, u8>>()?;
+        let widths = numbers
+            .iter()
+            .map(|number| self.trace.facts[*number].width as usize);
+        if bits.len() < widths.sum::<usize>() || items.len() < numbers.len() {
+            return Err(21);
+        }
+        // The chain of each root asked for is gone through once.
+        let mut found = vec![None; self.trace.count()];
+        let (mut start, mut sum) = (0, 0);
+        for (number, item) in numbers.into_iter().zip(items) {
+            let root = self.trace.roots[number];
+            let (answered, visited) = *found[root].get_or_insert_with(|| self.look_up(root, time));
+            let room = &mut bits[start..];
+            let value = match answered {
+                Some(change) => self.write_value(number, change, room),
+                None => self.write_initial(number, room),
+            };
+            let is_text = self.trace.facts[number].kind == Kind::Text;
+            *item = Some(match value {
+                Value::Bits { width } => Item::Bits { start, width },
+                Value::Real { bits } => Item::Real { bits },
+                Value::Text { start, length } => Item::Text { start, length },
+                Value::NotDriven if is_text => Item::LentText { length: text.len() },
+                Value::NotDriven => Item::NotDriven,
+            });
+            if let Value::Bits { width } = value {
+                start += width as usize;
+            }
+            sum += visited;
+        }
+        Ok(sum)
+    }
+
+    /// The change of a root that a time answers, if any, and how many changes are visited: those with time after
+    /// it, plus the change answered.
+    fn look_up(&self, root: usize, time: i64) -> (Option<&Change>, u64) {
+        let (mut answered, mut later) = (None, 0);
+        // The chain's first change is that of highest offset.
+        for change in &self.chains[root] {
+            if self.trace.time(change.offset) > time {
+                later += 1;
+            } else if answered.is_none() {
+                answered = Some(change);
+            }
+        }
+        (answered, later + u64::from(answered.is_some()))
+    }
+
     /// The value where no change is answered; symbols are written into the lent bits, which have the room.
     fn write_initial(&self, facility: usize, bits: &mut [u8]) -> Value {
         let facts = self.trace.facts[facility];
@@ -282,6 +350,18 @@ pub fn value_at(file: &[u8], facility: u32, time: i64, bits: &mut [u8]) -> Resul
 /// The text at a time, that of the change of highest offset with time <= `time`, or else the lent text.
 pub fn text_at(file: &[u8], facility: u32, time: i64, text: &[u8]) -> Result<TextAt, u8> {
     Judged::new(file)?.text_at(facility, time, text)
+}
+
+/// The values of a list of facilities at a time, a record for each, and the number of changes visited in all.
+pub fn column(
+    file: &[u8],
+    time: i64,
+    facilities: &[u32],
+    text: &[u8],
+    bits: &mut [u8],
+    items: &mut [Option<Item>],
+) -> Result<u64, u8> {
+    Judged::new(file)?.column(time, facilities, text, bits, items)
 }
 
 /// The offsets of each facility's own chain, newest first; none for an alias.

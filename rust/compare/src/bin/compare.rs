@@ -45,9 +45,10 @@ fn main() {
         "{} files, {} inputs, {calls} calls compared, all alike",
         compared.files, compared.inputs
     );
-    println!("{:>13}  answered, then refused 1 to 25", "");
+    println!("{:>13}  answered, then refused 1 to 25, and 35", "");
     for call in CALLS {
-        let counts = (0..=25).map(|number| answers.get(&(call, number)).unwrap_or(&0).to_string());
+        let numbers = (0..=25).chain([35]);
+        let counts = numbers.map(|number| answers.get(&(call, number)).unwrap_or(&0).to_string());
         println!("{call:>13}  {}", Vec::from_iter(counts).join(" "));
     }
     let missing = missing(&compared);
@@ -58,7 +59,7 @@ fn main() {
 }
 
 /// Prints what occurred, and gives what did not although there were enough files or inputs: then the run says
-/// nothing about padding, stray bytes, such times, changes visited, texts or what was written.
+/// nothing about padding, stray bytes, such times, changes visited, texts, columns or what was written.
 fn missing(compared: &Compared) -> Vec<String> {
     let mut missing = Vec::new();
     let enough = compared.files >= 1_000;
@@ -74,6 +75,7 @@ fn missing(compared: &Compared) -> Vec<String> {
     let met = met.chain(compared.long_times());
     let met = met.chain(compared.visited());
     let met = met.chain(compared.texts());
+    let met = met.chain(compared.columns());
     let met = met.map(|(what, count)| (what.to_string(), count, enough));
     let enough = compared.inputs >= 5_000;
     let written = compared.written().into_iter();

@@ -6,7 +6,7 @@
 //! valgrind --error-exitcode=1 target/release/exact FILES [SEED]
 //! ```
 
-use lxt::Pair;
+use lxt::{Item, Pair};
 use lxt_compare::walk::landmarks;
 use lxt_generate::{record, Pending, Random};
 use lxt_reference::{Judged, Tables};
@@ -66,7 +66,41 @@ fn all_calls(file: &[u8]) -> u64 {
         }
         calls += 1;
     }
-    calls + made_records(&file)
+    calls + columns(&file, &judged) + made_records(&file)
+}
+
+/// Asks for columns of nothing, of all facilities, of some with repeats, with a number that is not below n, and of too
+/// many numbers, each with the room that it needs, a byte less and an item less; and gives how many calls that is.
+fn columns(file: &[u8], judged: &Result<Judged, u8>) -> u64 {
+    let judged = judged.as_ref().map_err(|number| *number);
+    let n = judged.map_or(1, |it| it.summary().facilities);
+    let some = [0, n / 2, n.saturating_sub(1), n / 2, 0].map(|it| it.min(n));
+    let all = Vec::from_iter(0..n);
+    let mut calls = 0;
+    for list in [&[][..], &all, &some, &[0, n, 0], &[0; 4_097]] {
+        let list: Box<[u32]> = list.into();
+        let width = |facility: &u32| judged.and_then(|it| it.facts(*facility));
+        let widths = list.iter().map(|it| width(it).map_or(1, |it| it.width));
+        let widths = widths.sum::<u32>() as usize;
+        for (less, items_less) in [(0, 0), (1, 0), (0, 1)] {
+            let room = widths.saturating_sub(less);
+            let items_room = list.len().saturating_sub(items_less);
+            for (time, count) in [(i64::MIN, 7), (1_000, 0)] {
+                let text = exact(b'?', count);
+                let (mut bits, mut theirs) = (exact(0, room), exact(0, room));
+                let mut items = exact(Item::default(), items_room);
+                let visited = lxt::column(file, time, &list, &text, &mut bits, &mut items);
+                let expected = judged.and_then(|it| {
+                    let mut items = exact(None, items_room);
+                    it.column(time, &list, &text, &mut theirs, &mut items)
+                });
+                assert_eq!(visited.map_err(|it| it.number()), expected);
+                assert_eq!(bits, theirs);
+                calls += 1;
+            }
+        }
+    }
+    calls
 }
 
 /// Asks for the text of a facility at its oldest change and at both ends of the range of times, and gives how many

@@ -7,9 +7,9 @@ use std::ffi::{c_int, c_void};
 use std::marker::PhantomData;
 
 use super::c::{self, Facility, Handed, Part, Summary, Value};
-use super::tests::{handed, numbers, part, rows, shape, Rows};
+use super::tests::{handed, item, numbers, part, rows, shape, Rows};
 use super::Given;
-use crate::{NewChange, NewFacility, Pair};
+use crate::{Item, NewChange, NewFacility, Pair};
 use lxt_generate::Random;
 use lxt_reference::Judged;
 
@@ -121,12 +121,32 @@ impl<T> Drop for Guarded<T> {
     }
 }
 
+/// Guarded memory for what a column is lent, besides the file and the bits.
+struct ColumnLent {
+    list: Guarded<u32>,
+    text: Guarded<u8>,
+    items: Guarded<Item>,
+    sum: Guarded<u64>,
+}
+
+impl ColumnLent {
+    fn new() -> Self {
+        ColumnLent {
+            list: Guarded::new(8_192),
+            text: Guarded::new(300),
+            items: Guarded::new(8_192),
+            sum: Guarded::new(1),
+        }
+    }
+}
+
 /// Guarded memory for what the calls are lent.
 struct Lent {
     file: Guarded<u8>,
     asked: Guarded<u8>,
     bytes: Guarded<u8>,
     text: Guarded<u8>,
+    column: ColumnLent,
     pairs: Guarded<Pair>,
     output: Guarded<u32>,
     /// Structs and single numbers.
@@ -149,8 +169,9 @@ impl Lent {
         Lent {
             file: Guarded::new(longest),
             asked: Guarded::new(8_192),
-            bytes: Guarded::new(8_192),
+            bytes: Guarded::new(COLUMN),
             text: Guarded::new(300),
+            column: ColumnLent::new(),
             pairs: Guarded::new(8_192),
             output: Guarded::new(16_384),
             summary: Guarded::new(1),
@@ -169,7 +190,11 @@ impl Lent {
     }
 }
 
+/// The most bytes of a column that are lent here.
+const COLUMN: usize = 1 << 20;
+
 const MARK: u32 = 0xAAAA_AAAA;
+const SUM: u64 = 0xAAAA_AAAA_BBBB_BBBB;
 const TIME: i64 = -0x5555_5555_5555_5555;
 
 const SUMMARY: Summary = Summary {
@@ -195,6 +220,13 @@ const PART: Part = Part {
     from: 77,
     start: 78,
     length: 79,
+};
+
+const ITEM: Item = Item {
+    what: 77,
+    start: 78,
+    length: 79,
+    real: 80,
 };
 
 const HANDED: Handed = Handed {
@@ -238,6 +270,61 @@ fn text_calls(
         assert_eq!((number, *answer), expected);
     }
     2 * counts.len() as u64
+}
+
+/// Columns of these numbers at a time, with exactly the room that they need, with a byte and an item less, and with
+/// more. The lent text cannot be read. Gives how many calls.
+fn column_calls(
+    file: &[u8],
+    judged: Result<&Judged, u8>,
+    (list, time): (&[u32], i64),
+    lent: (&mut Guarded<u8>, &mut ColumnLent),
+    place: Place,
+) -> u64 {
+    let (bytes, lent) = lent;
+    let width = |facility: &u32| judged.and_then(|it| it.facts(*facility)).map(|it| it.width);
+    let widths: usize = list.iter().map(|it| width(it).unwrap_or(1) as usize).sum();
+    if widths + 3 > COLUMN {
+        return 0;
+    }
+    let rooms = [
+        (widths, list.len()),
+        (widths.saturating_sub(1), list.len()),
+        (widths, list.len().saturating_sub(1)),
+        (widths + 3, list.len() + 3),
+    ];
+    for (room, items_room) in rooms {
+        let (mut bits, mut items) = (vec![0xA5; room], vec![None; items_room]);
+        let text = vec![0xA5; room.min(300)];
+        let expected = judged.and_then(|it| it.column(time, list, &text, &mut bits, &mut items));
+        let symbols = bytes.lend(&vec![0xA5; room], place);
+        let records = lent.items.lend(&vec![ITEM; items_room], place);
+        let visited = &mut lent.sum.lend(&[SUM], place)[0];
+        let list = lent.list.lend_to_read(list, place);
+        let unread = lent.text.lend_untouched(text.len(), place);
+        // SAFETY: as in `super::column`, but that the text cannot be read, which the header says it is not.
+        let number = unsafe {
+            c::lxt_column(
+                file.as_ptr(),
+                file.len(),
+                time,
+                list.as_ptr(),
+                list.len(),
+                unread,
+                text.len(),
+                symbols.as_mut_ptr(),
+                symbols.len(),
+                records.as_mut_ptr(),
+                records.len(),
+                visited,
+            )
+        };
+        assert_eq!((number, *visited), after(expected, SUM));
+        assert!(symbols == bits);
+        let items = items.into_iter().map(|it| it.map_or(ITEM, item));
+        assert!(records.iter().copied().eq(items));
+    }
+    rooms.len() as u64
 }
 
 /// All calls about a file with guarded memory, compared with the independent reader. Gives how many.
@@ -352,6 +439,17 @@ fn all_calls(file: &[u8], lent: &mut Lent, place: Place) -> u64 {
         calls += 5;
     }
 
+    // Columns: of nothing, of all facilities, of some with repeats, with a wrong number, and of too many numbers.
+    let all = Vec::from_iter(0..n as u32);
+    let some = (0..n.min(9)).map(|_| random.below(n) as u32);
+    let some = Vec::from_iter(some);
+    let wrong = [&some[..], &[n as u32]].concat();
+    for list in [&[][..], &all, &some, &wrong, &vec![0; 4_097]] {
+        let time = random.within_signed(-50, 5_000);
+        let lent = (&mut lent.bytes, &mut lent.column);
+        calls += column_calls(file, judged, (list, time), lent, place);
+    }
+
     // Walks with exactly n asked bytes and pairs, and one less; carrying on with exactly enough output.
     for less in [1, 0] {
         let count = n.saturating_sub(less);
@@ -449,6 +547,33 @@ fn a_lent_text_is_not_touched() {
         from,
         [Ok((1, 4)), Ok((0, 5)), Ok((0, 0)), Ok((2, 0)), Err(18)]
     );
+}
+
+/// Whether its items are lent, driven, driven and empty, of other kinds or refused.
+#[test]
+fn a_lent_text_of_a_column_is_not_touched() {
+    let file = include_bytes!("../../../../traces/strings.gtkwave-export.unz.lxt");
+    let judged = Judged::new(file).expect("a trace");
+    let (mut bytes, mut lent) = (Guarded::new(COLUMN), ColumnLent::new());
+    let all = Vec::from_iter(0..judged.summary().facilities);
+    let lists = [&[2][..], &[2, 0, 2], &all, &[2, 7]];
+    for (list, time) in lists
+        .into_iter()
+        .flat_map(|it| [-1, 0, 9].map(|time| (it, time)))
+    {
+        for place in [Place::First, Place::Last] {
+            let lent = (&mut bytes, &mut lent);
+            let calls = column_calls(file, Ok(&judged), (list, time), lent, place);
+            assert_eq!(calls, 4);
+        }
+    }
+    let text = [-1, 0, 9].map(|time| {
+        let mut items = [None];
+        let answer = judged.column(time, &[2], b"none", &mut [], &mut items);
+        answer.map(|_| items[0].map(item).map(|it| (it.what, it.length)))
+    });
+    let expected = [(4, 4), (2, 5), (2, 0)];
+    assert_eq!(text, expected.map(|it| Ok(Some(it))));
 }
 
 /// Guarded memory for what writing is lent.

@@ -2,8 +2,12 @@ use std::collections::BTreeMap;
 
 use super::c::{self, Facility, Handed, Part, Summary};
 use super::judge;
-use crate::{NewChange, NewFacility, Pair};
+use crate::{Item, NewChange, NewFacility, Pair};
 use lxt_reference::{Judged, TextAt, Value, Which};
+
+#[allow(dead_code)]
+#[path = "../../tests/mixed/mod.rs"]
+mod mixed;
 
 // ---- Declared alike ----
 
@@ -23,6 +27,7 @@ fn rust_type(words: &str) -> String {
         "lxt_facility" => "Facility".to_string(),
         "lxt_value" => "Value".to_string(),
         "lxt_part" => "Part".to_string(),
+        "lxt_item" => "Item".to_string(),
         "lxt_handed" => "Handed".to_string(),
         "lxt_new_facility" => "NewFacility".to_string(),
         "lxt_new_change" => "NewChange".to_string(),
@@ -52,13 +57,13 @@ fn the_declarations_are_those_of_the_header() {
     let ours = joined(include_str!("../ffi.rs")).replace(", ) ->", " ) ->");
     let ours = ours.replace("( ", "(").replace(" )", ")");
 
-    // The pair and the rows of the writer are public, with words at their fields.
+    // The pair, the item and the rows of the writer are public, with words at their fields.
     let public = include_str!("../lib.rs").lines();
     let public = public.filter(|line| !line.trim_start().starts_with("//"));
     let public = joined(&Vec::from_iter(public).join(" "));
 
     let functions: Vec<&str> = plain.split("uint32_t lxt_").skip(1).collect();
-    assert_eq!(functions.len(), 12);
+    assert_eq!(functions.len(), 13);
     for function in functions {
         let (name, rest) = function.split_once('(').expect("a function");
         let (arguments, _) = rest.split_once(");").expect("its arguments");
@@ -72,10 +77,10 @@ fn the_declarations_are_those_of_the_header() {
         let declared = format!("pub fn lxt_{name}({arguments}) -> u32;");
         assert!(ours.contains(&declared), "{declared}");
     }
-    assert_eq!(ours.matches("pub fn lxt_").count(), 12);
+    assert_eq!(ours.matches("pub fn lxt_").count(), 13);
 
     let structs: Vec<&str> = plain.split("typedef struct {").skip(1).collect();
-    assert_eq!(structs.len(), 8);
+    assert_eq!(structs.len(), 9);
     for part in structs {
         let (fields, rest) = part.split_once('}').expect("its end");
         let (name, _) = rest.split_once(';').expect("its name");
@@ -87,7 +92,7 @@ fn the_declarations_are_those_of_the_header() {
         let fields = Vec::from_iter(fields).join(" ");
         let declared = format!("pub struct {} {{ {fields} }}", rust_type(name));
         let code = match name.trim() {
-            "lxt_pair" | "lxt_new_facility" | "lxt_new_change" => &public,
+            "lxt_pair" | "lxt_item" | "lxt_new_facility" | "lxt_new_change" => &public,
             _ => &ours,
         };
         assert!(code.contains(&declared), "{declared}");
@@ -99,8 +104,8 @@ fn the_declarations_are_those_of_the_header() {
 
 // ---- Length ----
 
-/// All eleven answers of reading about a file with this many bytes, pairs and numbers lent, and what these hold.
-/// The text that is lent has these bytes too.
+/// All twelve answers of reading about a file with this many bytes, pairs and numbers lent, and what these hold.
+/// The text that is lent has these bytes too, and a column has a list of as many numbers as there are pairs.
 fn all_answers(file: &[u8], bits: &mut [u8], pairs: &mut [Pair], output: &mut [u32]) -> String {
     let mut answers = String::new();
     let (mut five, mut scale) = (MARKED, 99);
@@ -132,6 +137,21 @@ fn all_answers(file: &[u8], bits: &mut [u8], pairs: &mut [Pair], output: &mut [u
             answers += &format!("{number} {three:?}, ");
         }
     }
+    let list = Vec::from_iter(0..pairs.len() as u32);
+    let text = bits.to_vec();
+    for (list, room) in [
+        (&list[..], 0),
+        (&list, 3),
+        (&list[..list.len().min(3)], 3),
+        (&[0], 1),
+    ] {
+        let (mut items, mut visited) = (vec![ITEM; room], 77);
+        for time in [i64::MIN, 100, i64::MAX] {
+            let lent = (&mut *bits, &mut items[..], &mut visited);
+            let number = super::column(file, time, list, &text, lent.0, lent.1, lent.2);
+            answers += &format!("{number} {items:?} {visited} {bits:?}, ");
+        }
+    }
     let number = super::start_walk(file, &asked, pairs);
     answers += &format!("{number} {pairs:?}, ");
     let mut two = HANDED;
@@ -142,6 +162,13 @@ fn all_answers(file: &[u8], bits: &mut [u8], pairs: &mut [Pair], output: &mut [u
 const PAIR: Pair = Pair {
     number: 0xAAAA_AAAA,
     offset: 0xBBBB_BBBB,
+};
+
+const ITEM: Item = Item {
+    what: 0xAAAA_AAAA_AAAA_AAAA,
+    start: 0xBBBB_BBBB_BBBB_BBBB,
+    length: 0xCCCC_CCCC_CCCC_CCCC,
+    real: 0xDDDD_DDDD_DDDD_DDDD,
 };
 
 /// Facility 2 of this trace is a text: `hello` from the time 0 on, and empty from 9 on; 0 is a bit.
@@ -184,7 +211,15 @@ fn an_empty_slice_may_be_lent() {
             assert_eq!(super::start_walk(&file, &[], &mut []), 21);
             let number = super::carry_on(&file, &mut [], 0, &mut [], &mut two);
             assert_eq!((number, one, two), (21, 77, HANDED));
+            let mut visited = 77;
+            let number = super::column(&file, 0, &[0], &[], &mut [], &mut [], &mut visited);
+            assert_eq!((number, visited), (21, 77));
             lacking += 1;
+        }
+        if accepted {
+            let mut visited = 77;
+            let number = super::column(&file, 0, &[], &[], &mut [], &mut [], &mut visited);
+            assert_eq!((number, visited), (0, 0));
         }
         // A file without facilities needs no pair.
         if accepted && n == 0 {
@@ -200,6 +235,9 @@ fn an_empty_slice_may_be_lent() {
     assert_eq!(judge(&[], &mut answer, &mut timescale), 1);
     let mut stray = 77;
     assert_eq!((super::stray(&[], &mut stray), stray), (1, 77));
+    let mut visited = 77;
+    let number = super::column(&[], 0, &[], &[], &mut [], &mut [], &mut visited);
+    assert_eq!((number, visited), (1, 77));
     let mut part = PART;
     assert_eq!((super::text_at(&[], 0, 0, &[], &mut part), part), (1, PART));
     for (time, expected) in [(-1, [1, 0, 0]), (0, [0, 21, 5]), (9, [0, 124, 0])] {
@@ -219,6 +257,11 @@ fn a_struct_is_its_numbers() {
     assert_eq!((size_of::<Facility>(), align_of::<Facility>()), (8, 4));
     assert_eq!((size_of::<c::Value>(), align_of::<c::Value>()), (24, 8));
     assert_eq!((size_of::<Part>(), align_of::<Part>()), (24, 8));
+    assert_eq!((size_of::<Item>(), align_of::<Item>()), (32, 8));
+    assert_eq!(std::mem::offset_of!(Item, what), 0);
+    assert_eq!(std::mem::offset_of!(Item, start), 8);
+    assert_eq!(std::mem::offset_of!(Item, length), 16);
+    assert_eq!(std::mem::offset_of!(Item, real), 24);
     assert_eq!((size_of::<Handed>(), align_of::<Handed>()), (8, 4));
     assert_eq!(
         (size_of::<NewFacility>(), align_of::<NewFacility>()),
@@ -264,6 +307,58 @@ fn any_address_that_the_type_allows_will_do() {
     }
 }
 
+#[test]
+fn a_column_may_lie_anywhere_that_its_types_allow() {
+    /// A list from an address that 4 divides and 8 does not, and items from one that 8 divides and 16 does not.
+    #[repr(C)]
+    struct Odd {
+        before: u64,
+        items: [Item; 40],
+        between: u32,
+        list: [u32; 40],
+    }
+    let mut written = 0;
+    for (file, n) in small_files(900..1_200).filter(|(_, n)| (1..40).contains(n)) {
+        let mut expected = None;
+        for shift in 0..16 {
+            let mut odd = At64(Odd {
+                before: 0,
+                items: [ITEM; 40],
+                between: 0,
+                list: std::array::from_fn(|place| (place % n) as u32),
+            });
+            let lent = &mut odd.0;
+            assert_eq!(lent.list.as_ptr() as usize % 8, 4);
+            assert_eq!(lent.items.as_ptr() as usize % 16, 8);
+            let mut bits = At64([9; 5_016]);
+            let mut text = At64([1; 40]);
+            let text = &mut text.0[shift..shift + 11];
+            let mut visited = 77;
+            let number = super::column(
+                &file,
+                100,
+                &lent.list,
+                text,
+                &mut bits.0[shift..shift + 5_000],
+                &mut lent.items,
+                &mut visited,
+            );
+            let answer = (
+                number,
+                visited,
+                lent.items,
+                bits.0[shift..][..5_000].to_vec(),
+            );
+            assert_eq!((lent.before, lent.between), (0, 0));
+            assert!(bits.0[..shift].iter().all(|it| *it == 9));
+            assert!(bits.0[shift + 5_000..].iter().all(|it| *it == 9));
+            written += u32::from(number == 0);
+            assert!(*expected.get_or_insert(answer.clone()) == answer);
+        }
+    }
+    assert!(written >= 16 * 50, "{written}");
+}
+
 // ---- No overlap ----
 
 #[test]
@@ -290,6 +385,27 @@ fn what_is_only_read_may_overlap() {
             assert_eq!(super::text_at(STRINGS, 2, time, text, &mut part), 0);
             assert_eq!([part.from, part.start, part.length], expected);
         }
+    }
+    // The list of a column in the file, and the text in the list or around it: the bytes from 64 on are zeros.
+    let mut file = At64([0; 640]);
+    let start = STRINGS.windows(8).position(|it| *it == [0; 8]);
+    let shift = 64 - start.expect("zeros");
+    file.0[shift..shift + STRINGS.len()].copy_from_slice(STRINGS);
+    // SAFETY: any bytes are numbers, and the address is one that 4 divides.
+    let (before, words, behind) = unsafe { file.0.align_to::<u32>() };
+    assert_eq!((before, behind), (&[][..], &[][..]));
+    let (within, list) = (&file.0[shift..][..STRINGS.len()], &words[16..18]);
+    assert_eq!((within, list), (STRINGS, &[0, 0][..]));
+    let of = |file: &[u8], list: &[u32], text: &[u8]| {
+        let (mut bits, mut items, mut visited) = ([9; 3], [ITEM; 3], 77);
+        let lent = (&mut bits, &mut items, &mut visited);
+        let number = super::column(file, 9, list, text, lent.0, lent.1, lent.2);
+        assert_eq!(number, 0);
+        (bits, items, visited)
+    };
+    let apart = of(STRINGS, &[0, 0], &[b'?'; 8]);
+    for text in [&file.0[64..72], &file.0[60..68], &file.0[66..70], within] {
+        assert_eq!(of(within, list, text), apart);
     }
     // Asked bytes in the file, whose first byte is 1.
     let file = include_bytes!("../../../../traces/gpsim_onereg.lxt");
@@ -365,6 +481,12 @@ fn calls_run_on_a_thread_with_128_kib_of_stack() {
                 answers.starts_with("0 "),
                 lxt_reference::judge(file).is_ok()
             );
+            // A column of all facilities, with room for them.
+            let list = Vec::from_iter(0..*n as u32);
+            let (mut bits, mut items, mut visited) = (vec![9; n << 12], vec![ITEM; *n], 77);
+            let number = super::column(file, 9, &list, b"", &mut bits, &mut items, &mut visited);
+            let expected = lxt_reference::judge(file).map(|_| ());
+            assert_eq!(number, after(expected, ()).0);
         }
         files.len()
     };
@@ -477,6 +599,32 @@ fn structs_are_written_whole_and_nothing_around_them() {
         let expected = strings.text_at(facility, time, b"none").expect("an answer");
         assert_eq!(three.unframed(), part(expected), "{facility} at {time}");
         assert_eq!(text.unframed(), *b"none");
+    }
+
+    for time in [-1, 0, 9] {
+        // As many items as numbers and as many bytes as widths, and more of both.
+        let (text, list) = (framed(*b"none"), framed([2, 0, 2, 1]));
+        let (mut bits, mut items) = (framed([9; 40]), framed([ITEM; 6]));
+        let mut visited = framed(77);
+        let widths = list.lent.map(|it| strings.facts(it).expect("facts").width);
+        let widths = widths.iter().sum::<u32>() as usize;
+        for (room, items_room) in [(40, 6), (widths, 4)] {
+            let (symbols, records) = (&mut bits.lent[..room], &mut items.lent[..items_room]);
+            let answer = &mut visited.lent;
+            let number = super::column(
+                STRINGS, time, &list.lent, &text.lent, symbols, records, answer,
+            );
+            assert_eq!(number, 0);
+        }
+        let (mut room, mut records) = ([9; 40], [None; 6]);
+        let sum = strings.column(time, &list.lent, b"none", &mut room, &mut records);
+        assert_eq!(Ok(visited.unframed()), sum);
+        assert_eq!(
+            (bits.unframed(), items.unframed()),
+            (room, items_of(records))
+        );
+        assert_eq!(text.unframed(), *b"none");
+        assert_eq!(list.unframed(), [2, 0, 2, 1]);
     }
 
     let mut pairs = framed([PAIR; 1]);
@@ -619,6 +767,29 @@ pub fn part(text: TextAt) -> Part {
     }
 }
 
+/// The independent reader's item as the numbers of C's.
+pub fn item(of: lxt_reference::Item) -> Item {
+    use lxt_reference::Item as Of;
+    let (what, start, length, real) = match of {
+        Of::Bits { start, width } => (0, start as u64, width.into(), 0),
+        Of::Real { bits } => (1, 0, 0, bits),
+        Of::Text { start, length } => (2, start.into(), length.into(), 0),
+        Of::NotDriven => (3, 0, 0, 0),
+        Of::LentText { length } => (4, 0, length as u64, 0),
+    };
+    Item {
+        what,
+        start,
+        length,
+        real,
+    }
+}
+
+/// The same of those that were written, and the mark of the others.
+fn items_of<const N: usize>(items: [Option<lxt_reference::Item>; N]) -> [Item; N] {
+    items.map(|it| it.map_or(ITEM, item))
+}
+
 /// The independent reader's facts as the numbers of C's.
 pub fn shape(facts: &lxt_reference::Facts) -> Facility {
     Facility {
@@ -742,6 +913,74 @@ fn a_part_is_written_or_stays() {
             seen.get(&answer).is_some_and(|count| *count >= 50),
             "{answer:?}"
         );
+    }
+}
+
+#[test]
+fn a_column_is_written_or_stays() {
+    const MARK: u64 = 0xEEEE_EEEE_EEEE_EEEE;
+    let mut seen = BTreeMap::new();
+    questions(|file, judged, facility, offset, room| {
+        let judged = judged.as_ref().map_err(|number| *number);
+        let any = i64::from(offset);
+        let lists: [&[u32]; 4] = [
+            &[],
+            &[facility],
+            &[0, facility, facility],
+            &[facility; 4_097],
+        ];
+        for (list, time) in lists.into_iter().zip([any, -any, i64::MAX, i64::MIN]) {
+            let text = vec![0xA5; room];
+            let (mut bits, mut items) = (vec![0xA5; room], framed([ITEM; 4]));
+            let mut visited = framed(MARK);
+            let lent = (&mut items.lent, &mut visited.lent);
+            let number = super::column(file, time, list, &text, &mut bits, lent.0, lent.1);
+            let (mut expected_bits, mut expected_items) = (vec![0xA5; room], [None; 4]);
+            let expected = judged.and_then(|it| {
+                let lent = (&mut expected_bits, &mut expected_items);
+                it.column(time, list, &text, lent.0, lent.1)
+            });
+            assert_eq!((number, visited.unframed()), after(expected, MARK));
+            assert_eq!(bits, expected_bits);
+            let items = items.unframed();
+            assert_eq!(items, items_of(expected_items));
+            assert!(text.iter().all(|it| *it == 0xA5));
+            *seen.entry((number, items[0].what)).or_insert(0) += 1;
+        }
+    });
+    // Each sort of item, none in an empty list, and the mark after each refusal that the call can give.
+    println!("{seen:?}");
+    let refusals = (0..=18).chain([21, 35]);
+    let refusals = refusals.map(|number| (number, ITEM.what));
+    for answer in refusals.chain((0..=4).map(|what| (0, what))) {
+        assert!(
+            seen.get(&answer).is_some_and(|count| *count >= 50),
+            "{answer:?}"
+        );
+    }
+}
+
+/// The refused examples of the trace with every kind: the bits, the items and the sum stay.
+#[test]
+fn a_refused_column_writes_nothing() {
+    let file = &mixed::file();
+    for (list, room, items_room, number) in [
+        (&[0, 5][..], 0, 0, 18),
+        (&[0, 5], 9, 2, 18),
+        (&[0, 0], 5, 2, 21),
+        (&[0, 0], 6, 1, 21),
+        (&[0; 4_097], 0, 0, 35),
+        (&[9; 4_097], 0, 0, 35),
+        (&[9; 4_096], 0, 0, 18),
+    ] {
+        let (mut bits, mut items) = (framed([b'#'; 9]), framed([ITEM; 2]));
+        let mut visited = framed(0xEEEE_EEEE_EEEE_EEEE_u64);
+        let (symbols, records) = (&mut bits.lent[..room], &mut items.lent[..items_room]);
+        let answer = &mut visited.lent;
+        let given = super::column(file, 25, list, b"none", symbols, records, answer);
+        assert_eq!(given, number);
+        assert_eq!((bits.unframed(), items.unframed()), ([b'#'; 9], [ITEM; 2]));
+        assert_eq!(visited.unframed(), 0xEEEE_EEEE_EEEE_EEEE);
     }
 }
 

@@ -16,3 +16,17 @@ pub fn file() -> Vec<u8> {
     let bytes = (0..DIGITS.len() / 2).map(|at| byte(at).expect("a byte"));
     bytes.collect()
 }
+
+/// The same with its facilities 3 and 4 as aliases of these.
+pub fn with_aliases(third: u8, fourth: u8) -> Vec<u8> {
+    let mut file = file();
+    for (facility, target) in [(3, third), (4, fourth)] {
+        let (geometry, sync) = (0x35 + 16 * facility, 0x85 + 4 * facility);
+        // The last bytes of the rows and of the flags.
+        file[geometry + 3] = target;
+        file[geometry + 15] = 8;
+        // An alias's own entry counts for nothing: here a change of the bits.
+        file[sync + 3] = 22;
+    }
+    file
+}

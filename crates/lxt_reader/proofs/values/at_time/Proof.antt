@@ -1,5 +1,5 @@
 use Rattle.lxt_values.proofs.BiasLaws.{latest-at}
-use Rattle.lxt_reader.proofs.ValueWays.{value-refused, value-short, latest-asks, visited-fits, value-start, value-readies, value-given}
+use Rattle.lxt_reader.proofs.ValueWays.{value-refused, value-short, latest-asks, visited-fits, value-shows, value-given}
 use borrow.Author.Needs.{needs}
 use Rattle.lxt_reader.proofs.values.at_time.Statement.{statement}
 use Rattle.lxt_reader.proofs.values.at_time.Tie as tie
@@ -55,8 +55,15 @@ cast-visited c =
     let latest = latest-at _ _ (entry .fits .time) _ _ _ (found .latest .ensures) in
     record { fits = visited-fits _ _ _ _ (chain .find-chain .ensures) (accepted .if1 .left) _ _ latest }
 
-initial-requires : tie.Need-initial-requires
-initial-requires c κs = search needs
+at-requires : tie.Need-at-requires
+at-requires c κs =
+    let found = c .before .before .before in
+    let enough = found .before .before .before .before in
+    let accepted = enough .before .before .before in
+    let chain = accepted .before .before in
+    let entry = chain .before .before .before in
+    let latest = latest-at _ _ (entry .fits .time) _ _ _ (found .latest .ensures) in
+    value-shows _ _ (entry .args .time) (entry .args .bits .now) _ (chain .find-chain .ensures) (accepted .if1 .left) (enough .if2 .left) _ _ latest
 
 same-length : tie.Need-same-length
 same-length c = search needs
@@ -64,42 +71,14 @@ same-length c = search needs
 returns-3 : tie.Need-returns-3
 returns-3 c =
     let answer = c .before .before in
-    let none = answer .before .before in
-    let found = none .before .before .before in
+    let found = answer .before .before .before .before in
     let enough = found .before .before .before .before in
     let accepted = enough .before .before .before in
     let chain = accepted .before .before in
     let entry = chain .before .before .before in
     let latest = latest-at _ _ (entry .fits .time) _ _ _ (found .latest .ensures) in
-    value-start _ _ _ (entry .args .bits .now) _ (chain .find-chain .ensures) (accepted .if1 .left) (enough .if2 .left) _ _ latest (none .if3 .taken) _ _
-    (answer .initial .ensures .0) (answer .initial .ensures .1)
-
-read-requires : tie.Need-read-requires
-read-requires c κs =
-    let some = c .before .before in
-    let found = some .before .before .before in
-    let enough = found .before .before .before .before in
-    let accepted = enough .before .before .before in
-    let chain = accepted .before .before in
-    let entry = chain .before .before .before in
-    let latest = latest-at _ _ (entry .fits .time) _ _ _ (found .latest .ensures) in
-    value-readies _ _ (entry .args .time) (entry .args .bits .now) _ (chain .find-chain .ensures) (accepted .if1 .left) (enough .if2 .left) _ _ latest (some .if3 .left)
-
-same-length-2 : tie.Need-same-length-2
-same-length-2 c = search needs
-
-returns-4 : tie.Need-returns-4
-returns-4 c =
-    let answer = c .before .before in
-    let some = answer .before .before .before in
-    let found = some .before .before .before in
-    let enough = found .before .before .before .before in
-    let accepted = enough .before .before .before in
-    let chain = accepted .before .before in
-    let entry = chain .before .before .before in
-    let latest = latest-at _ _ (entry .fits .time) _ _ _ (found .latest .ensures) in
-    value-given _ _ _ (entry .args .bits .now) _ (chain .find-chain .ensures) (accepted .if1 .left) (enough .if2 .left) _ _ latest (some .if3 .left) _ _
-    (answer .read .ensures .0) (answer .read .ensures .1)
+    value-given _ _ _ (entry .args .bits .now) _ (chain .find-chain .ensures) (accepted .if1 .left) (enough .if2 .left) _ _ latest _ _
+    (answer .at .ensures .0) (answer .at .ensures .1)
 
 pub at-time-spec : {M : Type 1} → statement M
 at-time-spec =
@@ -115,9 +94,6 @@ at-time-spec =
     cast-latest-2
     latest-requires
     cast-visited
-    initial-requires
+    at-requires
     same-length
-    returns-3
-    read-requires
-    same-length-2
-    returns-4)
+    returns-3)

@@ -1,80 +1,20 @@
-use native.Mathlib.Omega.{arith}
-use mir.Syntax.{w64}
-use mir.Val.{toZ}
-use Rattle.lxt_format.specs.ChangesLaws.{previous-lt}
-use Rattle.lxt_values.proofs.TimeLaws.{Falling, falling-begun, chain-ended, first-below, change-readable, falling-turn}
-use Rattle.lxt_values.proofs.BiasLaws.{limit-at, latest-at}
+use Rattle.lxt_values.proofs.TimeLaws.{latest-found}
+use Rattle.lxt_values.proofs.BiasLaws.{limit-asked}
 use borrow.Author.Needs.{needs}
 use Rattle.lxt_values.proofs.times.latest.Statement.{statement}
 use Rattle.lxt_values.proofs.times.latest.Tie as tie
 
-abbrev Inv-loop : tie.InvT-loop
-Inv-loop file times m wide from t end o₀ visited₀ o visited = Falling file (toZ w64 t) from o visited
+limit-at-requires : tie.Need-limit-at-requires
+limit-at-requires c κs = search needs
 
-abbrev μ-loop : tie.MeasureT-loop
-μ-loop file times m wide from t end o₀ visited₀ o visited = o
+first-below-requires : tie.Need-first-below-requires
+first-below-requires c κs = search needs
 
-with-bias-requires : tie.Need-with-bias-requires Inv-loop μ-loop
-with-bias-requires c κs = search needs
-
-limit-requires : tie.Need-limit-requires Inv-loop μ-loop
-limit-requires c κs = c .before .before .pre .0
-
-loop-holds : tie.Need-loop-holds Inv-loop μ-loop
-loop-holds c = falling-begun _ _ _ (c .before .before .before .pre .1)
-
-add-visited : tie.Need-add-visited Inv-loop μ-loop
-add-visited c =
-    let inv = c .before .loop .inv in
-    let start = c .before .before .before .before .before in
-    record { fits = omega (arith, inv .above, start .fits .from .fits) }
-
-returns : tie.Need-returns Inv-loop μ-loop
+returns : tie.Need-returns
 returns c =
-    let turn = c .before in
-    let top = turn .before in
-    let limited = top .before in
-    let start = limited .before .before .before in
-    let limit = limit-at _ _ (start .fits .t) _ _ (limited .before .with-bias .ensures) (limited .limit .ensures) in
-    latest-at _ _ (start .fits .t) _ _ _ (first-below _ _ _ _ _ (top .loop .inv) (turn .loop-test .taken) _ limit (c .if1 .taken))
-
-previous-requires : tie.Need-previous-requires Inv-loop μ-loop
-previous-requires c κs = change-readable _ _ _ _ _ (c .before .before .loop .inv) (c .before .loop-test .taken)
-
-loop-less : tie.Need-loop-less Inv-loop μ-loop
-loop-less c =
-    let turn = c .before .before in
-    let top = turn .before in
-    let start = top .before .before .before .before in
-    omega (arith, c .previous .ensures, previous-lt (start .args .file .now) (top .loop .o) (omega (arith, turn .loop-test .taken)))
-
-loop-again : tie.Need-loop-again Inv-loop μ-loop
-loop-again c =
-    let turn = c .before .before in
-    let top = turn .before in
-    let limited = top .before in
-    let start = limited .before .before .before in
-    let limit = limit-at _ _ (start .fits .t) _ _ (limited .before .with-bias .ensures) (limited .limit .ensures) in
-    falling-turn _ _ _ _ _ (top .loop .inv) (turn .loop-test .taken) _ limit (c .before .if1 .left) _ (c .previous .ensures)
-
-returns-2 : tie.Need-returns-2 Inv-loop μ-loop
-returns-2 c =
-    let top = c .before in
-    let start = top .before .before .before .before in
-    latest-at _ _ (start .fits .t) _ _ _ (chain-ended _ _ _ _ _ (top .loop .inv) (c .loop-test .left))
+    let limited = c .before in
+    let start = limited .before .before in
+    latest-found _ _ _ _ _ _ (limit-asked _ _ (start .fits .t) _ (limited .limit-at .ensures)) (start .pre .1) (c .first-below .ensures)
 
 pub latest-spec : {M : Type 1} → statement M
-latest-spec =
-    tie.close
-    (tie.spec
-    Inv-loop
-    μ-loop
-    with-bias-requires
-    limit-requires
-    loop-holds
-    add-visited
-    returns
-    previous-requires
-    loop-less
-    loop-again
-    returns-2)
+latest-spec = tie.close (tie.spec limit-at-requires first-below-requires returns)

@@ -1,8 +1,8 @@
 //! Measures the proved functions beside the independent reader and writer, and prints tables:
 //!
 //! ```text
-//! cargo run --release --offline -p lxt-compare --bin bench [ratios] [lookups] [stray] [growth] [hostile] [writing]
-//!     [unpacking] [stack]
+//! cargo run --release --offline -p lxt-compare --bin bench [ratios] [lookups] [column] [stray] [growth] [hostile]
+//!     [writing] [unpacking] [stack]
 //! ```
 //!
 //! Without a word it makes all parts.
@@ -12,6 +12,7 @@
 //! alternate; a time is the median of its runs.
 
 mod before;
+mod column;
 mod growth;
 mod hostile;
 mod lookups;
@@ -34,6 +35,7 @@ fn main() {
     for (part, print) in [
         ("ratios", ratios::print as fn()),
         ("lookups", lookups::print),
+        ("column", column::print),
         ("stray", stray::print),
         ("growth", growth::print),
         ("hostile", hostile::print),

@@ -4,7 +4,7 @@ use std::ffi::{c_int, c_ulong, c_void};
 use std::hint::black_box;
 
 use crate::timing::{grouped, used};
-use lxt::Pair;
+use lxt::{Item, Pair};
 use lxt_compare::write::{proved, Rows};
 use lxt_generate::{large, Large, LONG_TIMES, SHORT_TIMES};
 use lxt_reference::{Judged, Kind};
@@ -109,6 +109,11 @@ pub fn print() {
             facts.is_ok_and(|it| it.kind == Kind::Text)
         };
         let text = (0..n as u32).find(is_text).unwrap_or(facility);
+        // A column of all facilities, and the first again up to the limit, with room for any.
+        let list = (0..n as u32).chain(std::iter::repeat(0));
+        let list = Vec::from_iter(list.take(lxt::LONGEST_COLUMN));
+        let mut column = vec![0; lxt::LONGEST_COLUMN * lxt::WIDEST];
+        let mut items = vec![Item::default(); list.len()];
         let (mut names, mut bits) = (vec![0; 1_023], vec![0; 4_096]);
         let asked = vec![1; n];
         let mut pairs = vec![Pair::default(); n];
@@ -125,6 +130,10 @@ pub fn print() {
             used_by(&mut || used(lxt::change(file, facility, offset, &mut bits))),
             used_by(&mut || used(lxt::value_at(file, facility, 1_000, &mut bits))),
             used_by(&mut || used(lxt::text_at(file, text, 1_000, b"none"))),
+            used_by(&mut || {
+                let (bits, items) = (&mut column, &mut items);
+                used(lxt::column(file, 1_000, &list, b"none", bits, items));
+            }),
             used_by(&mut || used(lxt::start_walk(file, &asked, &mut pairs))),
             used_by(&mut || used(lxt::carry_on(file, &mut pairs, 1_000, &mut output))),
             used_by(&mut || used(proved(&input, &rows, &mut out))),

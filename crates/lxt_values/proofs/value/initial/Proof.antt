@@ -1,7 +1,7 @@
-use Rattle.lxt_reader.proofs.ValueWays.{bits-start, integer-start, real-start, text-start}
+use Rattle.lxt_values.proofs.StartLaws.{bits-start, integer-start, real-start, text-start}
 use borrow.Author.Needs.{needs}
-use Rattle.lxt_reader.proofs.values.initial.Statement.{statement}
-use Rattle.lxt_reader.proofs.values.initial.Tie as tie
+use Rattle.lxt_values.proofs.value.initial.Statement.{statement}
+use Rattle.lxt_values.proofs.value.initial.Tie as tie
 
 enum-told : tie.Need-enum-told
 enum-told c = search needs

@@ -1,0 +1,9 @@
+pub mod ListLaws
+pub mod ItemLaws
+pub mod MemoryLaws
+pub mod RecordLaws
+pub mod ListedLaws
+pub mod PartLaws
+pub mod PutLaws
+pub mod ColumnWays
+pub mod RoomLaws
