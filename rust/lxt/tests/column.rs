@@ -9,7 +9,6 @@ use lxt::{
 };
 use lxt_compare::column::{compare, Seen};
 use lxt_compare::questions::sample;
-use lxt_compare::times::{small_trace, small_trace_09};
 use lxt_compare::{generated, traces};
 use lxt_generate::{large, valid, Large, Random, DAMAGES, LONG_TIMES, SHORT_TIMES};
 use lxt_reference::Judged;
@@ -587,40 +586,10 @@ fn examples_of_64_bit_times() {
 
 #[test]
 fn the_ends_of_the_range() {
-    let (least, most) = (i64::MIN, i64::MAX);
-    for (times, expected) in [
-        ([least, 0], [(least, '0'), (-1, '0'), (most, '0')]),
-        ([least, 1], [(least, '1'), (least + 1, '0'), (most, '0')]),
-        ([most, 0], [(least, 'X'), (most - 1, 'X'), (most, '0')]),
-        (
-            [most - 1, 1],
-            [(most - 2, 'X'), (most - 1, '1'), (most, '0')],
-        ),
-        // Times whose lower halves are those of others.
-        (
-            [1 << 32, 1 << 32],
-            [(0xFFFF_FFFF, 'X'), (1 << 32, '1'), (1 << 33, '0')],
-        ),
-        ([-6, 10], [(-7, 'X'), (-6, '1'), (4, '0')]),
-    ] {
-        let file = small_trace_09(least, most, &[4, 2], &times);
-        for (time, expected) in expected {
-            assert_eq!(symbol(&file, time), expected, "{times:?} at {time}");
+    for (file, values) in wide::range_ends() {
+        for (time, expected) in values {
+            assert_eq!(symbol(&file, time), expected, "{file:02X?} at {time}");
         }
-    }
-    // Any time may be asked of 32-bit times.
-    let file = small_trace(0, &[4, 2], &[0, 5]);
-    for (time, expected) in [
-        (least, 'X'),
-        (-(1 << 32), 'X'),
-        (-1, 'X'),
-        (0, '1'),
-        (4, '1'),
-        (5, '0'),
-        (1 << 32, '0'),
-        (most, '0'),
-    ] {
-        assert_eq!(symbol(&file, time), expected, "{time}");
     }
 }
 

@@ -5,7 +5,6 @@ use std::ptr;
 
 use lxt::{Kind, NewValue, Refusal, TextAt, Trace, Value, Writer};
 use lxt_compare::questions::sample;
-use lxt_compare::times::{small_trace, small_trace_09};
 use lxt_compare::{generated, traces};
 use lxt_generate::{valid, Random, DAMAGES};
 use lxt_reference::Judged;
@@ -527,45 +526,13 @@ fn examples_of_64_bit_times() {
 
 #[test]
 fn the_ends_of_the_range() {
-    let (least, most) = (i64::MIN, i64::MAX);
-    for (times, expected) in [
-        // From the least number on, so that there is a text at every time.
-        ([least, 0], [(least, '0'), (-1, '0'), (most, '0')]),
-        ([least, 1], [(least, '1'), (least + 1, '0'), (most, '0')]),
-        // At the greatest alone.
-        ([most, 0], [(least, 'X'), (most - 1, 'X'), (most, '0')]),
-        (
-            [most - 1, 1],
-            [(most - 2, 'X'), (most - 1, '1'), (most, '0')],
-        ),
-        // Times whose lower halves are those of others.
-        (
-            [1 << 32, 1 << 32],
-            [(0xFFFF_FFFF, 'X'), (1 << 32, '1'), (1 << 33, '0')],
-        ),
-    ] {
-        let file = with_texts(&small_trace_09(least, most, &[4, 2], &times));
+    for (file, values) in wide::range_ends() {
+        let file = with_texts(&file);
         let trace = Trace::open(&file).expect("an accepted trace");
-        for (time, symbol) in expected {
+        for (time, symbol) in values {
             let place = asked(&trace, 0, time, b"none");
-            assert_eq!(place, Ok(place_of(symbol)), "{times:?} at {time}");
+            assert_eq!(place, Ok(place_of(symbol)), "{file:02X?} at {time}");
         }
-    }
-    // Any time may be asked of 32-bit times.
-    let file = with_texts(&small_trace(0, &[4, 2], &[0, 5]));
-    let trace = Trace::open(&file).expect("an accepted trace");
-    for (time, symbol) in [
-        (least, 'X'),
-        (-(1 << 32), 'X'),
-        (-1, 'X'),
-        (0, '1'),
-        (4, '1'),
-        (5, '0'),
-        (1 << 32, '0'),
-        (most, '0'),
-    ] {
-        let place = asked(&trace, 0, time, b"none");
-        assert_eq!(place, Ok(place_of(symbol)), "{time}");
     }
 }
 

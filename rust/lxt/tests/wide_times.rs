@@ -7,6 +7,7 @@ use refused::by_every_call;
 
 mod many;
 mod refused;
+#[allow(dead_code)]
 mod wide;
 
 const LEAST: i64 = i64::MIN;

@@ -136,3 +136,40 @@ impl Example {
         }
     }
 }
+
+/// Small traces whose changes lie at the ends of the range, or at times whose lower halves are those of others, and the
+/// symbols at times around them.
+pub fn range_ends() -> Vec<(Vec<u8>, Vec<(i64, char)>)> {
+    let of = |times: [i64; 2], values: &[(i64, char)]| {
+        let file = small_trace_09(LEAST, MOST, &[4, 2], &times);
+        (file, values.to_vec())
+    };
+    let short = [
+        (LEAST, 'X'),
+        (-(1 << 32), 'X'),
+        (-1, 'X'),
+        (0, '1'),
+        (4, '1'),
+        (5, '0'),
+        (1 << 32, '0'),
+        (MOST, '0'),
+    ];
+    vec![
+        // From the least number on, so that there is a value at every time.
+        of([LEAST, 0], &[(LEAST, '0'), (-1, '0'), (MOST, '0')]),
+        of([LEAST, 1], &[(LEAST, '1'), (LEAST + 1, '0'), (MOST, '0')]),
+        // At the greatest alone.
+        of([MOST, 0], &[(LEAST, 'X'), (MOST - 1, 'X'), (MOST, '0')]),
+        of(
+            [MOST - 1, 1],
+            &[(MOST - 2, 'X'), (MOST - 1, '1'), (MOST, '0')],
+        ),
+        of(
+            [1 << 32, 1 << 32],
+            &[(0xFFFF_FFFF, 'X'), (1 << 32, '1'), (1 << 33, '0')],
+        ),
+        of([-6, 10], &[(-7, 'X'), (-6, '1'), (4, '0')]),
+        // Any time may be asked of 32-bit times.
+        (small_trace(0, &[4, 2], &[0, 5]), short.to_vec()),
+    ]
+}
