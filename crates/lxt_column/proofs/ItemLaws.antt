@@ -157,7 +157,7 @@ module _ (s : List ℕ) (t : Tables) (file-fine : fileRefusal s ≡ 0) (e : t �
 
 -- ---- a root
 
-module _ (s : List ℕ) (t : Tables) (root : ℕ) (w : Rooted s t root) where
+module _ {s : List ℕ} {t : Tables} {root : ℕ} (w : Rooted s t root) where
   pub sync-asks : Sync s (t .sync) (t .facilities) × (root < t .facilities)
   sync-asks =
       let k = tables-known s t (w .tables) (w .accepted) in

@@ -23,29 +23,28 @@ drop-all (x ∷ l) (suc i) h = drop-all l i (omega arith)
 
 -- ---- a test of all
 
-module _ (p : ℕ → Bool) where
-  -- the test of what is left tells that of the whole
-  pub record Testing (l : List ℕ) (i : ℕ) : Type 0 where
-    pub left : all p (drop i l) ≡ all p l
+-- the test of what is left tells that of the whole
+pub record Testing (p : ℕ → Bool) (l : List ℕ) (i : ℕ) : Type 0 where
+  pub left : all p (drop i l) ≡ all p l
 
-  pub test-begun : (l : List ℕ) → Testing l 0
-  test-begun l = record { left = refl }
+pub test-begun : {p : ℕ → Bool} {l : List ℕ} → Testing p l 0
+test-begun = record { left = refl }
 
-  module _ (l : List ℕ) (i : ℕ) (w : Testing l i) where
-    pub test-ended : length l ≤ i → true ≡ all p l
+module _ {p : ℕ → Bool} {l : List ℕ} {i : ℕ} (w : Testing p l i) where
+  pub test-ended : length l ≤ i → true ≡ all p l
+  unfolding all
+  test-ended h = rw (drop-all l i h) at (w .left)
+
+  module _ (below : i < length l) where
+    pub test-failed : p (getD l i 0) ≡ false → false ≡ all p l
     unfolding all
-    test-ended h = rw (drop-all l i h) at (w .left)
+    test-failed h = simp (drop-cons l i 0 below, h) at (w .left)
 
-    module _ (below : i < length l) where
-      pub test-failed : p (getD l i 0) ≡ false → false ≡ all p l
-      unfolding all
-      test-failed h = simp (drop-cons l i 0 below, h) at (w .left)
-
-      pub test-turn : p (getD l i 0) ≡ true → Testing l (i + 1)
-      unfolding all
-      test-turn h =
-          let next : suc i ≡ i + 1 = omega arith in
-          record { left = rw (← next) (simp (drop-cons l i 0 below, h) at (w .left)) }
+    pub test-turn : p (getD l i 0) ≡ true → Testing p l (i + 1)
+    unfolding all
+    test-turn h =
+        let next : suc i ≡ i + 1 = omega arith in
+        record { left = rw (← next) (simp (drop-cons l i 0 below, h) at (w .left)) }
 
 -- what holds of all holds of each
 pub all-at : (p : ℕ → Bool) (l : List ℕ) → all p l ≡ true → (i : ℕ) → i < length l → p (getD l i 0) ≡ true
@@ -67,10 +66,10 @@ first-refusal s fine (f ∷ fs) =
 pub record Adding (f : ℕ → ℕ) (l : List ℕ) (i sum : ℕ) : Type 0 where
   pub left : sum + total f (drop i l) ≡ total f l
 
-pub add-begun : (f : ℕ → ℕ) (l : List ℕ) → Adding f l 0 0
-add-begun f l = record { left = omega arith }
+pub add-begun : {f : ℕ → ℕ} {l : List ℕ} → Adding f l 0 0
+add-begun = record { left = omega arith }
 
-module _ (f : ℕ → ℕ) (l : List ℕ) (i sum : ℕ) (w : Adding f l i sum) where
+module _ {f : ℕ → ℕ} {l : List ℕ} {i sum : ℕ} (w : Adding f l i sum) where
   pub add-ended : length l ≤ i → sum ≡ total f l
   unfolding total
   add-ended h = let whole : sum + 0 ≡ total f l = rw (drop-all l i h) at (w .left) in omega arith

@@ -26,14 +26,14 @@ use Rattle.lxt_column.proofs.ListLaws.{all-at, total-most}
 pub below-at : (s : List ℕ) (t : Tables) (asked : List ℕ) → Listed s t asked → (i : ℕ) → i < length asked → getD asked i 0 < facilityCount s
 below-at s t asked w i below = ltb-true _ _ (all-at (λ f. ltb f (facilityCount s)) asked (w .below) i below)
 
-module _ (s : List ℕ) (t : Tables) (asked roots : List ℕ) (w : Listed s t asked × Resolved s (t .facilities) true roots) where
+module _ {s : List ℕ} {t : Tables} {asked roots : List ℕ} (w : Listed s t asked × Resolved s (t .facilities) true roots) where
   -- the widths together fit any number of 64 bits
   pub widths-most : total (λ f. factsOf s f .width) asked ≤ 16777216
   widths-most =
       let each = total-most (λ f. factsOf s f .width) widestFacility asked (λ i below. width-small s t (w .0 .accepted) (w .0 .tables) (getD asked i 0) (below-at s t asked (w .0) i below)) in
       omega (arith, w .0 .short)
 
-  module _ (i : ℕ) (below : i < length asked) where
+  module _ {i : ℕ} (below : i < length asked) where
     abbrev number : ℕ
     number = getD asked i 0
 
@@ -54,14 +54,15 @@ module _ (s : List ℕ) (t : Tables) (asked roots : List ℕ) (w : Listed s t as
         × ((geometryAllowed s (getD roots number 0) ≡ true) × (isAlias s (getD roots number 0) ≡ false))
     facts-asked = facts-ask s t (w .0 .accepted) (w .0 .tables) number (below-at s t asked (w .0) i below) (getD roots number 0) root-is
 
-    pub width-is : (facts : Facts) → facts ≡ ownFacts s (getD roots number 0) → facts .width ≡ factsOf s number .width
+    pub width-is : {facts : Facts} → facts ≡ ownFacts s (getD roots number 0) → facts .width ≡ factsOf s number .width
     unfolding factsOf
-    width-is facts e = rw (e, root-is)
+    width-is e = rw (e, root-is)
 
     pub rooted : Rooted s t (getD roots number 0)
     rooted = root-known s t (w .0 .accepted) (w .0 .tables) number (below-at s t asked (w .0) i below) (getD roots number 0) root-is
 
-    pub listed-found : (time : ℤ) (P : ℕ) → Limit s time P → (o visited : ℕ)
+    pub listed-found : {time : ℤ} {P : ℕ} → Limit s time P → {o visited : ℕ}
         → (o ≡ firstBelow P (chainOf s (syncOf s (getD roots number 0)))) × (visited ≡ visitedTo P (chainOf s (syncOf s (getD roots number 0))))
-        → (facts : Facts) → facts ≡ ownFacts s (getD roots number 0) → Found s t time number facts o visited
-    listed-found = item-found s t (w .0 .accepted) (w .0 .tables) number (below-at s t asked (w .0) i below) (getD roots number 0) root-is
+        → {facts : Facts} → facts ≡ ownFacts s (getD roots number 0) → Found s t time number facts o visited
+    listed-found limit found known =
+        item-found s t (w .0 .accepted) (w .0 .tables) number (below-at s t asked (w .0) i below) (getD roots number 0) root-is _ _ limit _ _ found _ known

@@ -77,9 +77,9 @@ remember s end known w root below o v eo ev small =
     }
 
 -- what is remembered is answered
-pub remembered : (s : List ℕ) (end : ℕ) (known : List ℕ) → Remembered s end known → (root : ℕ) → root < length known → (getD known root 0 ≡ unknown → ⊥)
+pub remembered : {s : List ℕ} {end : ℕ} {known : List ℕ} → Remembered s end known → {root : ℕ} → root < length known → (getD known root 0 ≡ unknown → ⊥)
     → ((getD known root 0 / 0x1_0000_0000 ≡ firstBelow end (chainOf s (syncOf s root))) × (getD known root 0 % 0x1_0000_0000 ≡ visitedTo end (chainOf s (syncOf s root)))) × Remembered s end known
-remembered s end known w root below n = (w .right root below n, w)
+remembered w {root} below n = (w .right root below n, w)
 
 -- a chain that starts at a number of 32 bits
 module _ (s : List ℕ) (end from : ℕ) (small : from < 0x1_0000_0000) (o v : ℕ) (found : (o ≡ firstBelow end (chainOf s from)) × (v ≡ visitedTo end (chainOf s from))) where
@@ -93,9 +93,9 @@ module _ (s : List ℕ) (end from : ℕ) (small : from < 0x1_0000_0000) (o v : �
   word-fits = omega (arith, found .0, found-most s end from .0, visited-small)
 
 -- what was found is answered, and remembered
-pub followed : (s : List ℕ) (end : ℕ) (known : List ℕ) → Remembered s end known → (root : ℕ) → root < length known → (from : ℕ) → from ≡ syncOf s root → from < 0x1_0000_0000
-    → (o v : ℕ) → (o ≡ firstBelow end (chainOf s from)) × (v ≡ visitedTo end (chainOf s from))
+pub followed : {s : List ℕ} {end : ℕ} {known : List ℕ} → Remembered s end known → {root : ℕ} → root < length known → {from : ℕ} → from ≡ syncOf s root → from < 0x1_0000_0000
+    → {o v : ℕ} → (o ≡ firstBelow end (chainOf s from)) × (v ≡ visitedTo end (chainOf s from))
     → ((o ≡ firstBelow end (chainOf s (syncOf s root))) × (v ≡ visitedTo end (chainOf s (syncOf s root)))) × Remembered s end (set known root (o * 0x1_0000_0000 + v))
-followed s end known w root below from e small o v found =
+followed {s} {end} {known} w {root} below {from} e small {o} {v} found =
     let here : (o ≡ firstBelow end (chainOf s (syncOf s root))) × (v ≡ visitedTo end (chainOf s (syncOf s root))) = rw e at found in
     (here, remember s end known w root below o v (here .0) (here .1) (visited-small s end from small o v found))

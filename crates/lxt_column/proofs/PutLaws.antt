@@ -36,14 +36,14 @@ pub record Putting (s : List ℕ) (time : ℤ) (lent : ℕ) (asked bits₀ : Lis
   pub bits-left : placed bits start (columnBits s time (drop i asked)) ≡ onto (columnBits s time asked) bits₀
   pub records-left : placed records i (columnRecords s time lent start (drop i asked)) ≡ onto (columnRecords s time lent 0 asked) records₀
 
-module _ (s : List ℕ) (time : ℤ) (lent : ℕ) (asked bits₀ : List ℕ) (records₀ : List (List ℕ)) (end : ℕ) where
-  pub put-begun : (known : List ℕ) → Remembered s end known → Putting s time lent asked bits₀ records₀ end (length known) bits₀ records₀ known 0 0 0
-  put-begun known w =
+module _ {s : List ℕ} {time : ℤ} {lent : ℕ} {asked bits₀ : List ℕ} {records₀ : List (List ℕ)} {end : ℕ} where
+  pub put-begun : {known : List ℕ} → Remembered s end known → Putting s time lent asked bits₀ records₀ end (length known) bits₀ records₀ known 0 0 0
+  put-begun w =
       record {
         reached = omega arith;
         remembered = w;
-        widths = add-begun _ asked;
-        sum = add-begun _ asked;
+        widths = add-begun;
+        sum = add-begun;
         small = omega arith;
         bits-long = refl;
         records-long = refl;
@@ -52,13 +52,13 @@ module _ (s : List ℕ) (time : ℤ) (lent : ℕ) (asked bits₀ : List ℕ) (re
         records-left = placed-start records₀ (columnRecords s time lent 0 asked);
       }
 
-  module _ (room : ℕ) (bits : List ℕ) (records : List (List ℕ)) (known : List ℕ) (start visited i : ℕ) (w : Putting s time lent asked bits₀ records₀ end room bits records known start visited i) where
+  module _ {room : ℕ} {bits : List ℕ} {records : List (List ℕ)} {known : List ℕ} {start visited i : ℕ} (w : Putting s time lent asked bits₀ records₀ end room bits records known start visited i) where
     pub put-ended : length asked ≤ i
         → (visited ≡ columnVisited s time asked) × ((bits ≡ onto (columnBits s time asked) bits₀) × (records ≡ onto (columnRecords s time lent 0 asked) records₀))
     unfolding columnVisited columnBits joined columnRecords
     put-ended h =
         let none = drop-all asked i h in (
-          add-ended _ asked i visited (w .sum) h,
+          add-ended (w .sum) h,
           (sym (placed-none bits start) ∙ (rw none at (w .bits-left)), sym (placed-none records i) ∙ (rw none at (w .records-left))),
         )
 
@@ -69,12 +69,12 @@ module _ (s : List ℕ) (time : ℤ) (lent : ℕ) (asked bits₀ : List ℕ) (re
       -- the bits of item i have room from `start` on, and its record has a place
       pub width-fits : start + factsOf s number .width ≤ length bits
       unfolding widthsOf
-      width-fits = omega (arith, add-within _ asked i start (w .widths) below (factsOf s number .width) refl, w .bits-long, fits .0)
+      width-fits = omega (arith, add-within (w .widths) below (factsOf s number .width) refl, w .bits-long, fits .0)
 
       pub record-fits : i < length records
       record-fits = omega (arith, w .records-long, fits .1)
 
-      module _ (t : Tables) (facts : Facts) (o count : ℕ) (found : Found s t time number facts o count) where
+      module _ {t : Tables} {facts : Facts} {o count : ℕ} (found : Found s t time number facts o count) where
         pub item-asks : (start ≤ length bits) × Shows s (t .end) (t .order) (facts .kind) (facts .width) o (length bits - start)
         item-asks = (omega (arith, width-fits), found .shows (length bits - start) (omega (arith, width-fits)))
 
@@ -91,8 +91,8 @@ module _ (s : List ℕ) (time : ℤ) (lent : ℕ) (asked bits₀ : List ℕ) (re
         abbrev rest : List ℕ
         rest = drop (suc i) asked
 
-        module _ (row : List ℕ) (er : row ≡ recordBy start (shown value) (sourceBy (facts .kind) value lent)) (bits′ : List ℕ) (eb : bits′ ≡ placed bits start (written value))
-            (known′ : List ℕ) (k : Remembered s end known′) (same : length known′ ≡ length known) where
+        module _ {row : List ℕ} (er : row ≡ recordBy start (shown value) (sourceBy (facts .kind) value lent)) {bits′ : List ℕ} (eb : bits′ ≡ placed bits start (written value))
+            {known′ : List ℕ} (k : Remembered s end known′) (same : length known′ ≡ length known) where
           same-width : facts .width ≡ length (written value)
           same-width = found .width-is ∙ rw (found .content) (sym (found .long))
 
@@ -119,8 +119,8 @@ module _ (s : List ℕ) (time : ℤ) (lent : ℕ) (asked bits₀ : List ℕ) (re
               record {
                 reached = omega arith;
                 remembered = k;
-                widths = add-turn _ asked i start (w .widths) below (facts .width) (found .width-is);
-                sum = add-turn _ asked i visited (w .sum) below count (found .visited-is);
+                widths = add-turn (w .widths) below (facts .width) (found .width-is);
+                sum = add-turn (w .sum) below count (found .visited-is);
                 small = omega (arith, w .small, found .few);
                 bits-long = rw eb (length-placed bits start (written value) enough ∙ w .bits-long);
                 records-long = length-set records i row ∙ w .records-long;

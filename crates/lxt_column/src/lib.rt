@@ -1,7 +1,7 @@
 // The values of many facilities at one time, for one judging of the file: a public call, which takes any bytes and
 // has no requires; where it is refused, nothing that was lent has changed.
-pub mod items;
-pub mod list;
+mod items;
+mod list;
 
 ghost use mathlib.Core.Path.{_≡_};
 ghost use mathlib.Core.Bool.{true};

@@ -12,7 +12,7 @@ use Rattle.lxt_format.specs.Values.{TextSource}
 use Rattle.lxt_format.specs.Answers.{Shown, bitsOf, realOf, textOf, nothing}
 use Rattle.lxt_format.specs.Questions.{valueAsked, valueBuffer, textAsked, widthsOf, columnRefusal, columnBits, recordBy, columnAsked, columnBuffer, columnOutput}
 use Rattle.lxt_format.specs.Everything.{everything}
-use Rattle.lxt_format.specs.Traces.{spelled, requested}
+use Rattle.lxt_format.specs.Traces.{spelled, facilitiesNamed, requested}
 use Rattle.lxt_format.specs.Examples.{Row, row, Holds}
 use Rattle.lxt_format.specs.WideTimes as Wide
 use Rattle.lxt_format.specs.WideTimes.{longTabledAs}
@@ -129,8 +129,11 @@ otherColumns =
     ∷ row 17 (said Wide.exampleA (negsuc 5) (0 ∷ 0 ∷ []) 0 2 2 .0) (given 4)
     ∷ row 17 (said Wide.exampleA (negsuc 4) (0 ∷ 0 ∷ []) 0 2 2 .0) (given 4)
     ∷ row 17 (said Wide.exampleA (pos 5) (0 ∷ 0 ∷ []) 0 2 2 .0) (given 2)
+    -- no facilities: an empty list is answered, and any number is wrong
+    ∷ row 18 (said (facilitiesNamed 0 0 []) (pos 0) [] 4 1 1) (given 0, (0x23 ∷ [], [] ∷ []))
+    ∷ row 18 (said (facilitiesNamed 0 0 []) (pos 0) (0 ∷ []) 4 1 1) (no 18 1 1)
     -- a refused file, before 35
-    ∷ row 18 (said (requested ++ spelled 1 0x00) (pos 25) (replicate 4097 9) 4 1 1) (no 3 1 1)
+    ∷ row 19 (said (requested ++ spelled 1 0x00) (pos 25) (replicate 4097 9) 4 1 1) (no 3 1 1)
     ∷ []
 
 pub columns-hold : Holds columns
@@ -140,4 +143,4 @@ columns-hold =
 
 pub other-columns-hold : Holds otherColumns
 unfolding everything requested spelled texts longTabledAs otherColumns
-other-columns-hold = (refl, (refl, (refl, (refl, (refl, (refl, (refl, tt)))))))
+other-columns-hold = (refl, (refl, (refl, (refl, (refl, (refl, (refl, (refl, (refl, tt)))))))))

@@ -11,12 +11,12 @@ mul-word c = search needs
 slice-read-word : tie.Need-slice-read-word
 slice-read-word c =
     let start = c .before .before .before in
-    omega (arith, root-small _ _ _ (start .pre .0), start .pre .1 .room)
+    omega (arith, root-small (start .pre .0), start .pre .1 .room)
 
 returns : tie.Need-returns
 returns c =
     let start = c .before .before .before .before in
-    remembered _ _ _ (start .pre .1) _ (omega (arith, root-small _ _ _ (start .pre .0), start .pre .1 .room)) (c .if1 .taken)
+    remembered (start .pre .1) (omega (arith, root-small (start .pre .0), start .pre .1 .room)) (c .if1 .taken)
 
 cast-sync-of : tie.Need-cast-sync-of
 cast-sync-of c = search needs
@@ -24,7 +24,7 @@ cast-sync-of c = search needs
 sync-of-requires : tie.Need-sync-of-requires
 sync-of-requires c κs =
     let start = c .before .before .before .before .before in
-    sync-asks _ _ _ (start .pre .0)
+    sync-asks (start .pre .0)
 
 cast-first-below : tie.Need-cast-first-below
 cast-first-below c = search needs
@@ -32,7 +32,7 @@ cast-first-below c = search needs
 first-below-requires : tie.Need-first-below-requires
 first-below-requires c κs =
     let start = c .before .before .before .before .before .before in
-    rw (c .sync-of .ensures) (root-readable _ _ _ (start .pre .0))
+    rw (c .sync-of .ensures) (root-readable (start .pre .0))
 
 mul-known : tie.Need-mul-known
 mul-known c =
@@ -50,7 +50,7 @@ mul-known-2 c = search needs
 slice-write-known : tie.Need-slice-write-known
 slice-write-known c =
     let start = c .before .before .before .before .before .before .before in
-    omega (arith, root-small _ _ _ (start .pre .0), start .pre .1 .room)
+    omega (arith, root-small (start .pre .0), start .pre .1 .room)
 
 same-length : tie.Need-same-length
 same-length c = search needs
@@ -59,7 +59,7 @@ returns-2 : tie.Need-returns-2
 returns-2 c =
     let synced = c .before in
     let start = synced .before .before .before .before .before .before in
-    followed _ _ _ (start .pre .1) _ (omega (arith, root-small _ _ _ (start .pre .0), start .pre .1 .room)) _ (synced .sync-of .ensures) (synced .sync-of .ok) _ _ (c .first-below .ensures)
+    followed (start .pre .1) (omega (arith, root-small (start .pre .0), start .pre .1 .room)) (synced .sync-of .ensures) (synced .sync-of .ok) (c .first-below .ensures)
 
 pub latest-of-spec : {M : Type 1} → statement M
 latest-of-spec =

@@ -28,7 +28,7 @@ limit-at-requires c κs =
 loop-holds : tie.Need-loop-holds Inv-loop μ-loop
 loop-holds c =
     let start = c .before .before .before .before .before .before .before in
-    put-begun _ _ _ _ _ _ _ _ (nothing-known _ _ _ (start .pre .1 .1))
+    put-begun (nothing-known _ _ _ (start .pre .1 .1))
 
 mul-root : tie.Need-mul-root Inv-loop μ-loop
 mul-root c = search needs
@@ -40,26 +40,26 @@ cast-root : tie.Need-cast-root Inv-loop μ-loop
 cast-root c =
     let turn = c .before in
     let start = turn .before .before .before .before .before .before .before .before .before in
-    record { fits = omega (arith, number-small _ _ _ _ (start .pre .0) _ (turn .loop-test .taken)) }
+    record { fits = omega (arith, number-small (start .pre .0) (turn .loop-test .taken)) }
 
 mul-root-2 : tie.Need-mul-root-2 Inv-loop μ-loop
 mul-root-2 c =
     let turn = c .before in
     let start = turn .before .before .before .before .before .before .before .before .before in
-    record { fits = omega (arith, number-small _ _ _ _ (start .pre .0) _ (turn .loop-test .taken)) }
+    record { fits = omega (arith, number-small (start .pre .0) (turn .loop-test .taken)) }
 
 shared-slice-read-root-2 : tie.Need-shared-slice-read-root-2 Inv-loop μ-loop
 shared-slice-read-root-2 c =
     let turn = c .before .before in
     let start = turn .before .before .before .before .before .before .before .before .before in
-    root-inside _ _ _ _ (start .pre .0) _ (turn .loop-test .taken)
+    root-inside (start .pre .0) (turn .loop-test .taken)
 
 latest-of-requires : tie.Need-latest-of-requires Inv-loop μ-loop
 latest-of-requires c κs =
     let turn = c .before .before .before in
     let top = turn .before in
     let start = top .before .before .before .before .before .before .before .before in
-    (rooted _ _ _ _ (start .pre .0) _ (turn .loop-test .taken), top .loop .inv .remembered)
+    (rooted (start .pre .0) (turn .loop-test .taken), top .loop .inv .remembered)
 
 cast-own-facts : tie.Need-cast-own-facts Inv-loop μ-loop
 cast-own-facts c = search needs
@@ -68,7 +68,7 @@ own-facts-requires : tie.Need-own-facts-requires Inv-loop μ-loop
 own-facts-requires c κs =
     let turn = c .before .before .before .before .before .before .before in
     let start = turn .before .before .before .before .before .before .before .before .before in
-    let asks = facts-asked _ _ _ _ (start .pre .0) _ (turn .loop-test .taken) in
+    let asks = facts-asked (start .pre .0) (turn .loop-test .taken) in
     (asks .0, (asks .1 .0, asks .1 .1))
 
 item-at-requires : tie.Need-item-at-requires Inv-loop μ-loop
@@ -79,8 +79,8 @@ item-at-requires c κs =
     let top = turn .before in
     let limited = top .before in
     let start = limited .before .before .before .before .before .before .before in
-    let found = listed-found _ _ _ _ (start .pre .0) _ (turn .loop-test .taken) _ _ (limited .limit-at .ensures) _ _ (latest .latest-of .ensures .0) _ (facts .own-facts .ensures) in
-    item-asks _ _ _ _ _ _ _ _ _ _ _ _ _ _ (top .loop .inv) (turn .loop-test .taken) (start .pre .1 .0) _ _ _ _ found
+    let found = listed-found (start .pre .0) (turn .loop-test .taken) (limited .limit-at .ensures) (latest .latest-of .ensures .0) (facts .own-facts .ensures) in
+    item-asks (top .loop .inv) (turn .loop-test .taken) (start .pre .1 .0) found
 
 mul-t23 : tie.Need-mul-t23 Inv-loop μ-loop
 mul-t23 c =
@@ -93,7 +93,7 @@ slice-set-from-records c =
     let turn = c .before .before .before .before .before .before .before .before .before .before .before .before in
     let top = turn .before in
     let start = top .before .before .before .before .before .before .before .before in
-    record-fits _ _ _ _ _ _ _ _ _ _ _ _ _ _ (top .loop .inv) (turn .loop-test .taken) (start .pre .1 .0)
+    record-fits (top .loop .inv) (turn .loop-test .taken) (start .pre .1 .0)
 
 cast-start : tie.Need-cast-start Inv-loop μ-loop
 cast-start c = search needs
@@ -106,8 +106,8 @@ add-start c =
     let top = turn .before in
     let limited = top .before in
     let start = limited .before .before .before .before .before .before .before in
-    let found = listed-found _ _ _ _ (start .pre .0) _ (turn .loop-test .taken) _ _ (limited .limit-at .ensures) _ _ (latest .latest-of .ensures .0) _ (facts .own-facts .ensures) in
-    record { fits = omega (arith, start-fits _ _ _ _ _ _ _ _ _ _ _ _ _ _ (top .loop .inv) (turn .loop-test .taken) (start .pre .1 .0) _ _ _ _ found, widths-most _ _ _ _ (start .pre .0)) }
+    let found = listed-found (start .pre .0) (turn .loop-test .taken) (limited .limit-at .ensures) (latest .latest-of .ensures .0) (facts .own-facts .ensures) in
+    record { fits = omega (arith, start-fits (top .loop .inv) (turn .loop-test .taken) (start .pre .1 .0) found, widths-most (start .pre .0)) }
 
 add-visited : tie.Need-add-visited Inv-loop μ-loop
 add-visited c =
@@ -117,8 +117,8 @@ add-visited c =
     let top = turn .before in
     let limited = top .before in
     let start = limited .before .before .before .before .before .before .before in
-    let found = listed-found _ _ _ _ (start .pre .0) _ (turn .loop-test .taken) _ _ (limited .limit-at .ensures) _ _ (latest .latest-of .ensures .0) _ (facts .own-facts .ensures) in
-    record { fits = sum-fits _ _ _ _ _ _ _ _ _ _ _ _ _ _ (top .loop .inv) (turn .loop-test .taken) (start .pre .1 .0) _ _ _ _ found (start .pre .0 .0 .short) }
+    let found = listed-found (start .pre .0) (turn .loop-test .taken) (limited .limit-at .ensures) (latest .latest-of .ensures .0) (facts .own-facts .ensures) in
+    record { fits = sum-fits (top .loop .inv) (turn .loop-test .taken) (start .pre .1 .0) found (start .pre .0 .0 .short) }
 
 add-i : tie.Need-add-i Inv-loop μ-loop
 add-i c =
@@ -139,10 +139,10 @@ loop-again c =
     let top = turn .before in
     let limited = top .before in
     let start = limited .before .before .before .before .before .before .before in
-    let found = listed-found _ _ _ _ (start .pre .0) _ (turn .loop-test .taken) _ _ (limited .limit-at .ensures) _ _ (latest .latest-of .ensures .0) _ (facts .own-facts .ensures) in
+    let found = listed-found (start .pre .0) (turn .loop-test .taken) (limited .limit-at .ensures) (latest .latest-of .ensures .0) (facts .own-facts .ensures) in
     let put = c .before .before .before in
-    put-turn _ _ _ _ _ _ _ _ _ _ _ _ _ _ (top .loop .inv) (turn .loop-test .taken) (start .pre .1 .0) _ _ _ _ found
-    _ (put .item-at .ensures .0) _ (put .item-at .ensures .1) _ (latest .latest-of .ensures .1) (latest .latest-of .kept .1 .1 .1 .1 .0)
+    put-turn (top .loop .inv) (turn .loop-test .taken) (start .pre .1 .0) found
+    (put .item-at .ensures .0) (put .item-at .ensures .1) (latest .latest-of .ensures .1) (latest .latest-of .kept .1 .1 .1 .1 .0)
 
 same-length : tie.Need-same-length Inv-loop μ-loop
 same-length c = c .before .loop .inv .bits-long
@@ -157,7 +157,7 @@ returns : tie.Need-returns Inv-loop μ-loop
 returns c =
     let top = c .before in
     let start = top .before .before .before .before .before .before .before .before in
-    put-at _ _ (start .fits .time) _ _ _ _ _ _ _ (put-ended _ _ _ _ _ _ _ _ _ _ _ _ _ _ (top .loop .inv) (c .loop-test .left))
+    put-at _ _ (start .fits .time) _ _ _ _ _ _ _ (put-ended (top .loop .inv) (c .loop-test .left))
 
 pub put-all-spec : {M : Type 1} → statement M
 put-all-spec =

@@ -15,7 +15,7 @@ abbrev μ-loop : tie.MeasureT-loop
 μ-loop facilities n i₀ i = length facilities - i
 
 loop-holds : tie.Need-loop-holds Inv-loop μ-loop
-loop-holds c = (omega arith, test-begun _ _)
+loop-holds c = (omega arith, test-begun)
 
 mul-if1 : tie.Need-mul-if1 Inv-loop μ-loop
 mul-if1 c = search needs
@@ -26,7 +26,7 @@ shared-slice-read-if1 c = search needs
 returns : tie.Need-returns Inv-loop μ-loop
 returns c =
     let top = c .before .before .before in
-    test-failed _ _ _ (top .loop .inv .1) (c .before .before .loop-test .taken) (le-ltb _ _ (c .if1 .taken))
+    test-failed (top .loop .inv .1) (c .before .before .loop-test .taken) (le-ltb _ _ (c .if1 .taken))
 
 add-i : tie.Need-add-i Inv-loop μ-loop
 add-i c = search needs
@@ -40,10 +40,10 @@ loop-again : tie.Need-loop-again Inv-loop μ-loop
 loop-again c =
     let turn = c .before .before in
     let top = turn .before in
-    (omega (arith, turn .loop-test .taken), test-turn _ _ _ (top .loop .inv .1) (turn .loop-test .taken) (lt-ltb _ _ (c .if1 .left)))
+    (omega (arith, turn .loop-test .taken), test-turn (top .loop .inv .1) (turn .loop-test .taken) (lt-ltb _ _ (c .if1 .left)))
 
 returns-2 : tie.Need-returns-2 Inv-loop μ-loop
-returns-2 c = test-ended _ _ _ (c .before .loop .inv .1) (c .loop-test .left)
+returns-2 c = test-ended (c .before .loop .inv .1) (c .loop-test .left)
 
 pub all-below-spec : {M : Type 1} → statement M
 all-below-spec =

@@ -16,7 +16,7 @@ abbrev μ-loop : tie.MeasureT-loop
 μ-loop file t roots facilities sum₀ i₀ sum i = length facilities - i
 
 loop-holds : tie.Need-loop-holds Inv-loop μ-loop
-loop-holds c = (omega arith, add-begun _ _)
+loop-holds c = (omega arith, add-begun)
 
 mul-root : tie.Need-mul-root Inv-loop μ-loop
 mul-root c = search needs
@@ -28,19 +28,19 @@ cast-root : tie.Need-cast-root Inv-loop μ-loop
 cast-root c =
     let turn = c .before in
     let start = turn .before .before .before .before .before in
-    record { fits = omega (arith, number-small _ _ _ _ (start .pre) _ (turn .loop-test .taken)) }
+    record { fits = omega (arith, number-small (start .pre) (turn .loop-test .taken)) }
 
 mul-root-2 : tie.Need-mul-root-2 Inv-loop μ-loop
 mul-root-2 c =
     let turn = c .before in
     let start = turn .before .before .before .before .before in
-    record { fits = omega (arith, number-small _ _ _ _ (start .pre) _ (turn .loop-test .taken)) }
+    record { fits = omega (arith, number-small (start .pre) (turn .loop-test .taken)) }
 
 shared-slice-read-root-2 : tie.Need-shared-slice-read-root-2 Inv-loop μ-loop
 shared-slice-read-root-2 c =
     let turn = c .before .before in
     let start = turn .before .before .before .before .before in
-    root-inside _ _ _ _ (start .pre) _ (turn .loop-test .taken)
+    root-inside (start .pre) (turn .loop-test .taken)
 
 cast-own-facts : tie.Need-cast-own-facts Inv-loop μ-loop
 cast-own-facts c = search needs
@@ -49,7 +49,7 @@ own-facts-requires : tie.Need-own-facts-requires Inv-loop μ-loop
 own-facts-requires c κs =
     let turn = c .before .before .before in
     let start = turn .before .before .before .before .before in
-    let asks = facts-asked _ _ _ _ (start .pre) _ (turn .loop-test .taken) in
+    let asks = facts-asked (start .pre) (turn .loop-test .taken) in
     (asks .0, (asks .1 .0, asks .1 .1))
 
 cast-sum : tie.Need-cast-sum Inv-loop μ-loop
@@ -61,8 +61,8 @@ add-sum c =
     let turn = known .before .before .before .before in
     let top = turn .before in
     let start = top .before .before .before .before in
-    let width = width-is _ _ _ _ (start .pre) _ (turn .loop-test .taken) _ (known .own-facts .ensures) in
-    record { fits = omega (arith, add-within _ _ _ _ (top .loop .inv .1) (turn .loop-test .taken) _ width, widths-most _ _ _ _ (start .pre)) }
+    let width = width-is (start .pre) (turn .loop-test .taken) (known .own-facts .ensures) in
+    record { fits = omega (arith, add-within (top .loop .inv .1) (turn .loop-test .taken) _ width, widths-most (start .pre)) }
 
 add-i : tie.Need-add-i Inv-loop μ-loop
 add-i c = search needs
@@ -78,12 +78,12 @@ loop-again c =
     let turn = known .before .before .before .before in
     let top = turn .before in
     let start = top .before .before .before .before in
-    let width = width-is _ _ _ _ (start .pre) _ (turn .loop-test .taken) _ (known .own-facts .ensures) in
-    (omega (arith, turn .loop-test .taken), add-turn _ _ _ _ (top .loop .inv .1) (turn .loop-test .taken) _ width)
+    let width = width-is (start .pre) (turn .loop-test .taken) (known .own-facts .ensures) in
+    (omega (arith, turn .loop-test .taken), add-turn (top .loop .inv .1) (turn .loop-test .taken) _ width)
 
 returns : tie.Need-returns Inv-loop μ-loop
 unfolding widthsOf
-returns c = add-ended _ _ _ _ (c .before .loop .inv .1) (c .loop-test .left)
+returns c = add-ended (c .before .loop .inv .1) (c .loop-test .left)
 
 pub widths-spec : {M : Type 1} → statement M
 widths-spec =
