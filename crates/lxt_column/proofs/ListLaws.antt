@@ -9,7 +9,7 @@ use lib.Dec.{ltb}
 use native.Mathlib.Omega.{arith}
 use native.Mathlib.Nat.{mul-suc}
 use Rattle.lxt_format.specs.Basics.{_unless_, all, total, firstFault}
-use Rattle.lxt_format.specs.BasicsLaws.{on-test, and-both}
+use Rattle.lxt_format.specs.BasicsLaws.{on-test}
 use Rattle.lxt_format.specs.Sections.{facilityCount}
 use Rattle.lxt_format.specs.Judge.{fileRefusal}
 use Rattle.lxt_format.specs.Questions.{facilityRefusal}
@@ -45,13 +45,6 @@ module _ {p : ℕ → Bool} {l : List ℕ} {i : ℕ} (w : Testing p l i) where
     test-turn h =
         let next : suc i ≡ i + 1 = omega arith in
         record { left = rw (← next) (simp (drop-cons l i 0 below, h) at (w .left)) }
-
--- what holds of all holds of each
-pub all-at : (p : ℕ → Bool) (l : List ℕ) → all p l ≡ true → (i : ℕ) → i < length l → p (getD l i 0) ≡ true
-unfolding all
-all-at p [] h i below = absurd (omega arith)
-all-at p (x ∷ l) h zero below = and-both (p x) (all p l) h .0
-all-at p (x ∷ l) h (suc i) below = all-at p l (and-both (p x) (all p l) h .1) i (omega arith)
 
 -- the first refused number's refusal, in an accepted file: 18, except where all are below n
 pub first-refusal : (s : List ℕ) → fileRefusal s ≡ 0 → (asked : List ℕ) → firstFault (map (facilityRefusal s) asked) ≡ (18 unless all (λ f. ltb f (facilityCount s)) asked)

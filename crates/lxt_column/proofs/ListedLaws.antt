@@ -10,6 +10,7 @@ use native.Mathlib.Omega.{arith}
 use borrow.Author.Tests.{ltb-true}
 use Rattle.lxt_format.specs.Limits.{widestFacility}
 use Rattle.lxt_format.specs.Basics.{total}
+use Rattle.lxt_format.specs.BasicsLaws.{all-at}
 use Rattle.lxt_format.specs.Sections.{facilityCount}
 use Rattle.lxt_format.specs.Geometry.{geometryAllowed, isAlias, ownFacts, rootOf, factsOf, syncOf}
 use Rattle.lxt_format.specs.Changes.{chainOf}
@@ -21,10 +22,10 @@ use Rattle.lxt_tables.proofs.TablesLaws.{tables-known}
 use Rattle.lxt_values.specs.Times.{Limit, firstBelow, visitedTo}
 use Rattle.lxt_column.specs.Listing.{Listed, Rooted}
 use Rattle.lxt_column.proofs.ItemLaws.{root-known, facts-ask, width-small, Found, item-found}
-use Rattle.lxt_column.proofs.ListLaws.{all-at, total-most}
+use Rattle.lxt_column.proofs.ListLaws.{total-most}
 
 pub below-at : (s : List ℕ) (t : Tables) (asked : List ℕ) → Listed s t asked → (i : ℕ) → i < length asked → getD asked i 0 < facilityCount s
-below-at s t asked w i below = ltb-true _ _ (all-at (λ f. ltb f (facilityCount s)) asked (w .below) i below)
+below-at s t asked w i below = ltb-true _ _ (all-at (λ f. ltb f (facilityCount s)) asked i 0 (w .below) below)
 
 module _ {s : List ℕ} {t : Tables} {asked roots : List ℕ} (w : Listed s t asked × Resolved s (t .facilities) true roots) where
   -- the widths together fit any number of 64 bits

@@ -125,6 +125,13 @@ module _ (p : ℕ → Bool) where
   all-end i n h = rw (range-done i n h)
 
 -- a test that holds of some number of a range
+-- what holds of each holds at each place
+pub all-at : {A : Type 0} (p : A → Bool) (l : List A) (i : ℕ) (d : A) → all p l ≡ true → i < length l → p (getD l i d) ≡ true
+unfolding all
+all-at p [] i d a h = absurd (omega arith)
+all-at p (x ∷ l) zero d a h = and-both (p x) (all p l) a .0
+all-at p (x ∷ l) (suc i) d a h = all-at p l i d (and-both (p x) (all p l) a .1) (omega arith)
+
 pub any-range : {P : Type 0} (p : ℕ → Bool) (i k : ℕ) → any p (range i k) ≡ true → ((j : ℕ) → i ≤ j → j < i + k → p j ≡ true → P) → P
 unfolding any range
 any-range p i zero h found = absurd (false≢true h)

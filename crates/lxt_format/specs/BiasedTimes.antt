@@ -1,18 +1,18 @@
 -- Times as the code holds them: with a bias of 2 ^ 63, as numbers from 0 on in the same order. Definitions of times are in integers; these are laws.
-use Prim.Native.Nat.{ℕ, zero, suc, _+_, _*_, _-_, _≤_, _<_}
+use Prim.Native.Nat.{ℕ, zero, suc, _+_, _-_, _≤_, _<_}
 use mathlib.Core.Path.{_≡_, refl, sym, _∙_, ap}
 use mathlib.Core.Bool.{Bool, true, false, _&&_, false≢true}
 use mathlib.Core.List.{List, [], _∷_, map}
 use lib.ListN.{length, getD, drop}
-use lib.IntN.{ℤ, pos, negsuc, subℕ, _+ℤ_}
+use lib.IntN.{ℤ, pos, negsuc, _+ℤ_}
 use lib.Signed.{mag, leZ, nonNeg}
 use lib.Dec.{leb, ltb}
 use native.Mathlib.Omega.{arith}
 use native.Mathlib.Decide.{decLe}
 use borrow.Author.Tests.{le-leb, lt-leb, lt-ltb, le-ltb, leb-true, ltb-true}
-use Rattle.lxt_format.specs.Limits.{leastTime, greatestTime}
+use Rattle.lxt_format.specs.Limits.{leastTime}
 use Rattle.lxt_format.specs.Basics.{if_then_else_, all}
-use Rattle.lxt_format.specs.BasicsLaws.{on-test, and-both}
+use Rattle.lxt_format.specs.BasicsLaws.{and-both, all-at}
 use Rattle.lxt_format.specs.Bytes.{signed}
 use Rattle.lxt_format.specs.Sections.{endOf, timeCount}
 use Rattle.lxt_format.specs.Times.{timeOfBytes, firstTime, lastTime, timeDeltaBytes, timeDeltas, sumsBy, positionsOf, timesOf, inRange, tableAllowed, timeOf}
@@ -141,12 +141,6 @@ getD-map : {A B : Type 0} (f : A → B) (l : List A) (i : ℕ) (d : A) (e : B) �
 getD-map f [] i d e h = absurd (omega arith)
 getD-map f (x ∷ l) zero d e h = refl
 getD-map f (x ∷ l) (suc i) d e h = getD-map f l i d e (omega arith)
-
-all-at : {A : Type 0} (p : A → Bool) (l : List A) (i : ℕ) (d : A) → all p l ≡ true → i < length l → p (getD l i d) ≡ true
-unfolding all
-all-at p [] i d a h = absurd (omega arith)
-all-at p (x ∷ l) zero d a h = and-both (p x) (all p l) a .0
-all-at p (x ∷ l) (suc i) d a h = all-at p l i d (and-both (p x) (all p l) a .1) (omega arith)
 
 -- the first, with the bias, and those after it, which have none
 length-first : (raw : List ℕ) → 0 < length raw → length (firstBiased raw) ≡ length raw

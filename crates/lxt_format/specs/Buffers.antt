@@ -1,11 +1,11 @@
 -- A buffer in which bytes, or rows of numbers, stand from a place on, and the laws of putting them there.
-use Prim.Native.Nat.{ℕ, zero, suc, _+_, _≤_, _<_}
+use Prim.Native.Nat.{ℕ, zero, suc, _+_, _-_, _≤_, _<_}
 use native.Mathlib.Nat.{add-zero, zero-add}
 use native.Mathlib.Omega.{arith}
 use mathlib.Core.Path.{_≡_, refl, sym, ap, _∙_}
-use mathlib.Core.List.{List, [], _∷_, _++_, append-assoc}
+use mathlib.Core.List.{List, [], _∷_, _++_, append-assoc, append-nil}
 use lib.ListN.{length, getD, set, take, drop, length-append, length-drop, length-set, take-append-drop}
-use lib.Seq.{length-take-le, take-at, drop-at, set-at, drop-cons, drop-drop, append-snoc, take-set-le, drop-set-lt}
+use lib.Seq.{length-take-le, take-length, drop-length, take-at, drop-at, set-at, drop-cons, drop-drop, append-snoc, take-set-le, drop-set-lt}
 use Rattle.lxt_format.specs.Columns.{onto}
 
 -- a buffer that holds a text from `at` on
@@ -93,3 +93,29 @@ module _ {A : Type 0} where
       getD-same [] i y = refl
       getD-same (z ∷ l) zero y = refl
       getD-same (z ∷ l) (suc i) y = getD-same l i y
+
+-- ---- a part that is lent on, from a place to the end
+
+-- the part of a buffer from `at` on, and the buffer with another part there
+abbrev pub partFrom : List ℕ → ℕ → List ℕ
+partFrom b at = take (length b - at) (drop at b)
+
+abbrev pub partBack : List ℕ → ℕ → List ℕ → List ℕ
+partBack b at ys = take at b ++ (ys ++ drop (length b - at) (drop at b))
+
+module _ (b : List ℕ) (at : ℕ) where
+  part-whole : partFrom b at ≡ drop at b
+  part-whole = ap (λ n. take n (drop at b)) (sym (length-drop at b)) ∙ take-length (drop at b)
+
+  pub part-long : length (partFrom b at) ≡ length b - at
+  part-long = rw part-whole (length-drop at b)
+
+  -- nothing stands after the part
+  rest-none : drop (length b - at) (drop at b) ≡ []
+  rest-none = ap (λ n. drop n (drop at b)) (sym (length-drop at b)) ∙ drop-length (drop at b)
+
+  -- text at the start of the part
+  pub part-put : (y : List ℕ) → partBack b at (y ++ drop (length y) (partFrom b at)) ≡ placed b at y
+  part-put y =
+      let e : drop (length y) (partFrom b at) ≡ drop (at + length y) b = rw part-whole (drop-drop (length y) at b) in
+      rw (rest-none, e) (ap (λ l. take at b ++ l) (append-nil (y ++ drop (at + length y) b)))

@@ -3,7 +3,7 @@ use Prim.Native.Nat.{ℕ, zero, suc, _+_, _≤_, _<_}
 use mathlib.Core.Path.{_≡_, refl, sym, _∙_, ap}
 use mathlib.Core.Bool.{_&&_}
 use mathlib.Core.List.{List, [], _∷_, _++_, map, append-assoc}
-use lib.ListN.{length, getD, take, drop, length-append}
+use lib.ListN.{length, getD, take, drop, length-append, List·getD-append}
 use lib.Seq.{slice, take-at, drop-at}
 use lib.IntN.{ℤ}
 use lib.Dec.{leb, lit<}
@@ -55,11 +55,6 @@ number-fine g (x ∷ l) h zero below = neither (g x) (firstFault (map g l)) h .0
 number-fine g (x ∷ l) h (suc i) below = number-fine g l (neither (g x) (firstFault (map g l)) h .1) i (omega arith)
 
 -- ---- one item of several
-
-front-at : {A : Type 0} (d : A) (l more : List A) (i : ℕ) → i < length l → getD (l ++ more) i d ≡ getD l i d
-front-at d [] more i below = absurd (omega arith)
-front-at d (x ∷ l) more zero below = refl
-front-at d (x ∷ l) more (suc i) below = front-at d l more i (omega arith)
 
 -- the part between a and c
 middle : (a b c : List ℕ) → slice (length a) (length a + length b) (a ++ (b ++ c)) ≡ b
@@ -167,7 +162,7 @@ one-by-one s t asked lent lentBits records h i below buffer room =
       source-is = alone-text s t f fine buffer room lent;
       record-is =
           rw h
-          (front-at [] all (drop (length all) records) i (rw (length-records s t lent 0 asked) below)
+          (List·getD-append all (drop (length all) records) [] i (rw (length-records s t lent 0 asked) below)
           ∙ record-at s t lent asked 0 i below
           ∙ ap (λ start. recordBy start (shown value) source) (zero-add (startAt s t asked i)));
       bits-are =

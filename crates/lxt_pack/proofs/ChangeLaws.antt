@@ -1,17 +1,17 @@
 -- Laws of the bytes of one change: its command byte, its delta and its data.
-use Prim.Native.Nat.{ℕ, zero, suc, _+_, _*_, _-_, _/_, _%_, _^_, _≤_, _<_}
+use Prim.Native.Nat.{ℕ, _+_, _*_, _-_, _/_, _%_, _^_, _≤_, _<_}
 use native.Mathlib.Omega.{arith}
 use native.Mathlib.Nat.{add-zero}
 use native.Mathlib.Decide.{ℕ-discrete}
 use mathlib.Core.Path.{_≡_, refl, sym, ap, _∙_}
-use mathlib.Core.Bool.{Bool, true, false, true≢false, false≢true}
+use mathlib.Core.Bool.{true, false, true≢false, false≢true}
 use mathlib.Core.List.{List, [], _∷_, _++_, map}
 use lib.ListN.{length, getD, take, set, length-append}
 use lib.Seq.{slice, length-slice, getD-take, getD-drop, set-getD, getD-set-other}
 use lib.Dec.{ltb, eqb}
 use borrow.Author.Tests.{ltb-true, eqb-true, eq-eqb, ne-eqb}
 use Rattle.lxt_format.specs.Basics.{if_then_else_, all}
-use Rattle.lxt_format.specs.BasicsLaws.{and-both, both-and}
+use Rattle.lxt_format.specs.BasicsLaws.{and-both, both-and, all-at}
 use Rattle.lxt_format.specs.Buffers.{placed, length-placed, placed-none, placed-more}
 use Rattle.lxt_format.specs.Changes.{symbolSize, packedSize}
 use Rattle.lxt_format.specs.Reals.{isReal}
@@ -92,13 +92,6 @@ symbols-none v start end command out at b within e z =
     let n : (0 * (end - start) + 7) / 8 ≡ 0 = omega arith in
     rw (length-slice start end v within, q, n) (sym (placed-none out at), sym (add-zero at))
 
--- what holds of each holds at each place
-all-at : (p : ℕ → Bool) (l : List ℕ) (i : ℕ) → all p l ≡ true → i < length l → p (getD l i 0) ≡ true
-unfolding all
-all-at p [] i h k = absurd (omega arith)
-all-at p (x ∷ l) zero h k = and-both (p x) (all p l) h .0
-all-at p (x ∷ l) (suc i) h k = all-at p l i (and-both (p x) (all p l) h .1) (omega arith)
-
 part-at : (v : List ℕ) (start end i : ℕ) → start ≤ i → i < end → getD (slice start end v) (i - start) 0 ≡ getD v i 0
 part-at v start end i h k =
     let e : start + (i - start) ≡ i = omega arith in
@@ -134,9 +127,9 @@ pack-held v start end command out at b h e some =
             within = h .within;
             codes = λ i from below.
                 rw (e, ← part-at v start end i from below)
-                (ltb-true _ _ (all-at (λ x. ltb (codeOf x) (2 ^ symbolSize command)) (slice start end v) (i - start) codes (omega arith)));
+                (ltb-true _ _ (all-at (λ x. ltb (codeOf x) (2 ^ symbolSize command)) (slice start end v) (i - start) 0 codes (omega arith)));
             known = λ i from below.
-                rw (← part-at v start end i from below) (code-small _ (all-at isSymbol (slice start end v) (i - start) (h .symbols) (omega arith)));
+                rw (← part-at v start end i from below) (code-small _ (all-at isSymbol (slice start end v) (i - start) 0 (h .symbols) (omega arith)));
           };
       room = rw e (h .room);
     }

@@ -4,9 +4,9 @@ use native.Mathlib.Nat.{add-zero}
 use native.Mathlib.Omega.{arith}
 use mathlib.Core.Path.{_≡_, refl, sym, ap, _∙_}
 use mathlib.Core.Bool.{true, false}
-use mathlib.Core.List.{List, [], _∷_, _++_, append-assoc, append-nil}
+use mathlib.Core.List.{List, [], _∷_, _++_, append-assoc}
 use lib.ListN.{length, take, drop, length-drop}
-use lib.Seq.{take-length, drop-length, drop-drop, slice}
+use lib.Seq.{slice}
 use lib.IntN.{ℤ}
 use lib.Ieee.{Float}
 use Rattle.lxt_format.specs.Limits.{widestFacility}
@@ -37,7 +37,7 @@ use Rattle.lxt_values.specs.Value.{Readies}
 use Rattle.lxt_values.proofs.ReadLaws.{symbols-long, bits-drawn, integer-drawn}
 use Rattle.lxt_print.specs.Lines.{decimal, signedDecimal, space, changeWord, hexBytes, valueText, changeLine}
 use Rattle.lxt_print.specs.Placing.{Opened, Put, changeHead}
-use Rattle.lxt_format.specs.Buffers.{placed}
+use Rattle.lxt_format.specs.Buffers.{partFrom, partBack, part-long, part-put}
 use Rattle.lxt_format.specs.Buffers.{placed-none}
 use Rattle.lxt_print.proofs.LineLaws.{opened-known, own-asks}
 
@@ -121,29 +121,6 @@ said-what (given nothing) = 3
 said-what (refused n) = 4
 
 -- ---- a value in the buffer
-
--- the part of a buffer from `at` on, and the buffer with another part there
-abbrev pub partFrom : List ℕ → ℕ → List ℕ
-partFrom b at = take (length b - at) (drop at b)
-
-abbrev pub partBack : List ℕ → ℕ → List ℕ → List ℕ
-partBack b at ys = take at b ++ (ys ++ drop (length b - at) (drop at b))
-
-part-whole : (b : List ℕ) (at : ℕ) → partFrom b at ≡ drop at b
-part-whole b at = ap (λ n. take n (drop at b)) (sym (length-drop at b)) ∙ take-length (drop at b)
-
-pub part-long : (b : List ℕ) (at : ℕ) → length (partFrom b at) ≡ length b - at
-part-long b at = rw (part-whole b at) (length-drop at b)
-
--- nothing stands after the part
-rest-none : (b : List ℕ) (at : ℕ) → drop (length b - at) (drop at b) ≡ []
-rest-none b at = ap (λ n. drop n (drop at b)) (sym (length-drop at b)) ∙ drop-length (drop at b)
-
--- symbols at the start of the part
-part-put : (b : List ℕ) (at : ℕ) (y : List ℕ) → partBack b at (y ++ drop (length y) (partFrom b at)) ≡ placed b at y
-part-put b at y =
-    let e : drop (length y) (partFrom b at) ≡ drop (at + length y) b = rw (part-whole b at) (drop-drop (length y) at b) in
-    rw (rest-none b at, e) (ap (λ l. take at b ++ l) (append-nil (y ++ drop (at + length y) b)))
 
 module _ (s : List ℕ) (C : Content) (v : Value) (ev : valueSays v ≡ given (shown C)) (b : List ℕ) (at : ℕ) (ys : List ℕ) (ey : ys ≡ holdingBits C (partFrom b at)) where
   -- a buffer in which no symbols were put
