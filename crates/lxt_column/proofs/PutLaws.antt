@@ -25,7 +25,6 @@ use Rattle.lxt_column.proofs.ListLaws.{drop-all, Adding, add-begun, add
 
 -- after i items: what is left, put from here on, gives what the whole gives
 pub record Putting (s : List ℕ) (time : ℤ) (lent : ℕ) (asked bits₀ : List ℕ) (records₀ : List (List ℕ)) (end room : ℕ) (bits : List ℕ) (records : List (List ℕ)) (known : List ℕ) (start visited i : ℕ) : Type 0 where
-  pub reached : i ≤ length asked
   pub remembered : Remembered s end known
   pub widths : Adding (λ f. factsOf s f .width) asked i start
   pub sum : Adding (λ f. visitedAt s (rootOf s f) time) asked i visited
@@ -40,7 +39,6 @@ module _ {s : List ℕ} {time : ℤ} {lent : ℕ} {asked bits₀ : List ℕ} {re
   pub put-begun : {known : List ℕ} → Remembered s end known → Putting s time lent asked bits₀ records₀ end (length known) bits₀ records₀ known 0 0 0
   put-begun w =
       record {
-        reached = omega arith;
         remembered = w;
         widths = add-begun;
         sum = add-begun;
@@ -117,7 +115,6 @@ module _ {s : List ℕ} {time : ℤ} {lent : ℕ} {asked bits₀ : List ℕ} {re
           put-turn =
               let next : suc i ≡ i + 1 = omega arith in
               record {
-                reached = omega arith;
                 remembered = k;
                 widths = add-turn (w .widths) below (facts .width) (found .width-is);
                 sum = add-turn (w .sum) below count (found .visited-is);

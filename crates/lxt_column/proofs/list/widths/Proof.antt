@@ -1,4 +1,4 @@
-use Prim.Native.Nat.{_-_, _≤_}
+use Prim.Native.Nat.{_-_}
 use lib.ListN.{length}
 use native.Mathlib.Omega.{arith}
 use Rattle.lxt_format.specs.Geometry.{factsOf}
@@ -10,13 +10,13 @@ use Rattle.lxt_column.proofs.list.widths.Statement.{statement}
 use Rattle.lxt_column.proofs.list.widths.Tie as tie
 
 abbrev Inv-loop : tie.InvT-loop
-Inv-loop file t roots facilities sum₀ i₀ sum i = (i ≤ length facilities) × Adding (λ f. factsOf file f .width) facilities i sum
+Inv-loop file t roots facilities sum₀ i₀ sum i = Adding (λ f. factsOf file f .width) facilities i sum
 
 abbrev μ-loop : tie.MeasureT-loop
 μ-loop file t roots facilities sum₀ i₀ sum i = length facilities - i
 
 loop-holds : tie.Need-loop-holds Inv-loop μ-loop
-loop-holds c = (omega arith, add-begun)
+loop-holds c = add-begun
 
 mul-root : tie.Need-mul-root Inv-loop μ-loop
 mul-root c = search needs
@@ -62,7 +62,7 @@ add-sum c =
     let top = turn .before in
     let start = top .before .before .before .before in
     let width = width-is (start .pre) (turn .loop-test .taken) (known .own-facts .ensures) in
-    record { fits = omega (arith, add-within (top .loop .inv .1) (turn .loop-test .taken) _ width, widths-most (start .pre)) }
+    record { fits = omega (arith, add-within (top .loop .inv) (turn .loop-test .taken) _ width, widths-most (start .pre)) }
 
 add-i : tie.Need-add-i Inv-loop μ-loop
 add-i c = search needs
@@ -79,11 +79,11 @@ loop-again c =
     let top = turn .before in
     let start = top .before .before .before .before in
     let width = width-is (start .pre) (turn .loop-test .taken) (known .own-facts .ensures) in
-    (omega (arith, turn .loop-test .taken), add-turn (top .loop .inv .1) (turn .loop-test .taken) _ width)
+    add-turn (top .loop .inv) (turn .loop-test .taken) _ width
 
 returns : tie.Need-returns Inv-loop μ-loop
 unfolding widthsOf
-returns c = add-ended (c .before .loop .inv .1) (c .loop-test .left)
+returns c = add-ended (c .before .loop .inv) (c .loop-test .left)
 
 pub widths-spec : {M : Type 1} → statement M
 widths-spec =
