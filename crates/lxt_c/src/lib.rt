@@ -1,5 +1,7 @@
 // The exported C functions. Each returns 0 or the refusal's number and writes its answer through lent
 // memory; where it is refused, nothing lent changes. include/lxt.h documents them for C.
+#![tactic(auto)]
+
 ghost use Rattle.std.specs.Prelude.{◌≡◌, length};
 ghost use Rattle.lxt_format.specs.Judge.{judge};
 ghost use Rattle.lxt_format.specs.Stray.{stray_asked};

@@ -11,7 +11,7 @@ use lxt_tables::geometry;
 
 // What the chains of a file are read with: n, C, T, one past the last zero before T, and where the
 // geometry and the sync table start.
-#[derive(Drop)]
+#[derive(Clone, Copy)]
 pub struct Chains {
     pub facilities: u32,
     pub from: usize,

@@ -21,7 +21,7 @@ use lxt_tables::geometry;
 pub const MOST: usize = Summary::MOST_FACILITIES as usize;
 
 // Whether there is no fault, and the bytes of good codes that are known after that was found.
-#[derive(Drop)]
+#[derive(Clone, Copy)]
 pub struct Passed {
     pub passed: bool,
     pub window: Window,

@@ -27,7 +27,7 @@ pub fn any_of_first(file: &[u8], c: Chains, k: u32) -> bool
 }
 
 // No facility below `low` has a fault, and one below `high` has.
-#[derive(Drop)]
+#[derive(Clone, Copy)]
 struct Bounds {
     low: u32,
     high: u32,

@@ -5,7 +5,7 @@ use crate::{free, whole};
 use lxt_tables::bodies;
 
 // A file's refusal, or 0 and how many of its bytes are stray.
-#[derive(Drop)]
+#[derive(Clone, Copy)]
 pub struct Counted {
     pub refusal: u8,
     pub stray: u32,

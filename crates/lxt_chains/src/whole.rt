@@ -47,7 +47,7 @@ fn refused(file: &[u8], c: Chains) -> Verdict
 
 // Refusals 15 to 17; or 0, whether the padding of all changes is 0, and how many bytes from offset 4 on lie in
 // no change and no part.
-#[derive(Drop)]
+#[derive(Clone, Copy)]
 pub struct Outcome {
     pub refusal: u8,
     pub clean: bool,
@@ -77,7 +77,7 @@ pub fn chains_outcome(file: &[u8], t: Tables, parts: &[u64]) -> Outcome
 }
 
 // A judged file: its refusal, or 0 and whether its padding is 0; and its tables.
-#[derive(Drop)]
+#[derive(Clone, Copy)]
 pub struct Examined {
     pub refusal: u8,
     pub clean: bool,

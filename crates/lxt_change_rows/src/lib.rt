@@ -1,6 +1,8 @@
 // Carrying on with a walk by changes with their times and values, over a walk record in two slices of 32-bit numbers;
 // lxt_record has the public call, over a slice of pairs. It takes any bytes and has no requires; where it is refused,
 // nothing that was lent has changed.
+#![tactic(auto)]
+
 mod rows;
 
 ghost use mathlib.Core.Path.{◌≡◌};

@@ -26,7 +26,7 @@ pub fn last_zero(file: &[u8], end: usize) -> usize
 
 // A change's fault, or 0 and whether its padding is 0; and what is known of good bytes after that was
 // found.
-#[derive(Drop)]
+#[derive(Clone, Copy)]
 pub struct Faulted {
     pub fault: u8,
     pub clean: bool,
@@ -34,7 +34,7 @@ pub struct Faulted {
 }
 
 // The first fault of changes, or 0 and whether the padding of each is 0.
-#[derive(Drop)]
+#[derive(Clone, Copy)]
 pub struct Verdict {
     pub fault: u8,
     pub clean: bool,

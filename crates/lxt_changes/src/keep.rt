@@ -11,7 +11,7 @@ use lxt_format::Kind;
 use lxt_sections::zeros::zero_from;
 
 // Whether a change keeps the rules, and if so whether its padding is 0 and where it ends.
-#[derive(Drop)]
+#[derive(Clone, Copy)]
 pub struct Kept {
     pub kept: bool,
     pub clean: bool,

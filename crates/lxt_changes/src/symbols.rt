@@ -83,14 +83,14 @@ fn good_to(file: &[u8], from: usize, to: usize) -> usize
 }
 
 // The bytes from `from` up to `to` are known to be good.
-#[derive(Drop)]
+#[derive(Clone, Copy)]
 pub struct Window {
     pub from: usize,
     pub to: usize,
 }
 
 // Whether data is allowed, and what is known of good bytes after that was found.
-#[derive(Drop)]
+#[derive(Clone, Copy)]
 pub struct Checked {
     pub allowed: bool,
     pub window: Window,

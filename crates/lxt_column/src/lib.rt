@@ -1,5 +1,7 @@
 // The values of many facilities at one time, for one judging of the file: a public call, which takes any bytes and
 // has no requires; where it is refused, nothing that was lent has changed.
+#![tactic(auto)]
+
 mod items;
 mod list;
 

@@ -1,6 +1,8 @@
 // Reads a trace of at most 65,536 bytes from standard input and prints it, as lxt_print puts it into a buffer;
 // what was put is written at once. Where a read or a write fails nothing more is written but a message on
 // standard error.
+#![tactic(auto)]
+
 ghost use Rattle.std.specs.Prelude.{◌<◌, length};
 ghost use Rattle.io.specs.Counts.{IsPrefixLen};
 ghost use Rattle.lxt_print.specs.Calls.{Lent};
@@ -11,7 +13,7 @@ use lxt_print::printing;
 use lxt_print::printing::Printing;
 
 // How many bytes were read, and whether a read failed after them.
-#[derive(Drop)]
+#[derive(Clone, Copy)]
 struct Input {
     size: usize,
     failed: bool,

@@ -35,7 +35,7 @@ fn shared(names: &[u8], before: usize, held: usize, at: usize, size: usize) -> u
 
 // What the first pass finds: whether every facility is allowed, the bytes of all names as they are
 // written, the memory M, and whether a facility is a real.
-#[derive(Drop)]
+#[derive(Clone, Copy)]
 pub struct Measured {
     pub sound: bool,
     pub size: usize,

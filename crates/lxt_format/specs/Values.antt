@@ -84,7 +84,7 @@ pub data TextSource : Type 0 where
 unfoldable pub source_of : Content → ℕ → TextSource
 source_of (text start size) lent = in_file start size
 source_of not_driven lent = lent_text lent
-source_of (bits symbols) lent = other_kind
+source_of (bits _) lent = other_kind
 source_of (real x b) lent = other_kind
 
 -- "the kind is another": bits, integers and reals, driven or not

@@ -1,10 +1,12 @@
 // The types of the reader's answers and the limits of the format. Every rule of the format is a
 // definition in specs/; nothing here computes more than a bound.
+#![tactic(auto)]
+
 ghost use Rattle.std.specs.Prelude.{◌≡◌, ◌&&◌, ◌-◌, leb};
 ghost use Rattle.lxt_format.specs.Limits.{shortest_file, longest_file, most_facilities, longest_name, widest_facility, longest_column};
 
 // A file, by its length in bytes.
-#[derive(Drop)]
+#[derive(Clone, Copy)]
 pub struct File {
     pub length: usize,
 }
@@ -26,7 +28,7 @@ impl File {
 }
 
 // A place in the section list: the offset of the next tag. The list is read towards the front.
-#[derive(Drop)]
+#[derive(Clone, Copy)]
 pub struct SectionCursor {
     pub at: usize,
 }
@@ -51,7 +53,7 @@ impl SectionCursor {
 
 // A place in the name table: the offset of the next name's prefix bytes, the length of the name
 // before it, and how much of the memory M is left.
-#[derive(Drop)]
+#[derive(Clone, Copy)]
 pub struct NameCursor {
     pub at: usize,
     pub before: usize,
@@ -81,7 +83,7 @@ impl NameCursor {
 }
 
 // What a facility's values are.
-#[derive(Drop)]
+#[derive(Clone, Copy)]
 pub enum Kind {
     Bits,
     Integer,
@@ -90,7 +92,7 @@ pub enum Kind {
 }
 
 // The facts of a facility. Integers have 32, 31 and 0; reals and texts 0, 0 and 0.
-#[derive(Drop)]
+#[derive(Clone, Copy)]
 pub struct Facts {
     pub width: u32,
     pub msb: i32,
@@ -109,7 +111,7 @@ impl Facts {
 }
 
 // What judging an accepted file answers.
-#[derive(Drop)]
+#[derive(Clone, Copy)]
 pub struct Summary {
     // n
     pub facilities: u32,
@@ -134,27 +136,27 @@ impl Summary {
     }
 }
 
-#[derive(Drop)]
+#[derive(Clone, Copy)]
 pub enum Judgement {
     Accepted(Summary),
     Refused(u8),
 }
 
-#[derive(Drop)]
+#[derive(Clone, Copy)]
 pub enum FactsAnswer {
     Known(Facts),
     Refused(u8),
 }
 
 // A facility's root, a name's length, or the change before a change (0 where there is none).
-#[derive(Drop)]
+#[derive(Clone, Copy)]
 pub enum NumberAnswer {
     Number(u32),
     Refused(u8),
 }
 
 // A value: that of a change, or that at a time.
-#[derive(Drop)]
+#[derive(Clone, Copy)]
 pub enum Value {
     // The symbols stand in the lent buffer.
     Bits { width: u32 },
@@ -168,7 +170,7 @@ pub enum Value {
 
 // A change's time and value, and whether its unused bits are 0. Where the value says "refused" these
 // are 0 and no.
-#[derive(Drop)]
+#[derive(Clone, Copy)]
 pub struct TimedValue {
     pub time: i64,
     pub value: Value,
@@ -177,7 +179,7 @@ pub struct TimedValue {
 
 // The value at a time, and how many changes were visited to find it: those of the root with a later time,
 // and the change answered, if any. Where the value says "refused" this is 0.
-#[derive(Drop)]
+#[derive(Clone, Copy)]
 pub struct Lookup {
     pub value: Value,
     pub visited: u32,
@@ -185,7 +187,7 @@ pub struct Lookup {
 
 // The text of a facility at a time, with a text that the caller lends where it has no change up to then: where it
 // stands.
-#[derive(Drop)]
+#[derive(Clone, Copy)]
 pub enum TextAnswer {
     // A part of the file, without the zero.
     File { start: u32, length: u32 },
@@ -197,7 +199,7 @@ pub enum TextAnswer {
 }
 
 // The facility numbers that a column is asked for, by how many they are.
-#[derive(Drop)]
+#[derive(Clone, Copy)]
 pub struct ColumnList {
     pub length: usize,
 }
@@ -214,7 +216,7 @@ impl ColumnList {
 }
 
 // A column: how many changes were visited for all of its items together.
-#[derive(Drop)]
+#[derive(Clone, Copy)]
 pub enum ColumnAnswer {
     Given { visited: u64 },
     Refused(u8),
@@ -223,21 +225,21 @@ pub enum ColumnAnswer {
 // A facility's number and an offset: a pair of the walk record, whose offset is the pending one, or
 // a pair that a walk hands out.
 #[repr(C)]
-#[derive(Drop)]
+#[derive(Clone, Copy)]
 pub struct Pair {
     pub number: u32,
     pub offset: u32,
 }
 
 // Starting a walk.
-#[derive(Drop)]
+#[derive(Clone, Copy)]
 pub enum StartAnswer {
     Started,
     Refused(u8),
 }
 
 // Carrying on: how many pairs were handed out, and whether all pending offsets are 0.
-#[derive(Drop)]
+#[derive(Clone, Copy)]
 pub enum CarryAnswer {
     Handed { count: u32, done: bool },
     Refused(u8),

@@ -1,5 +1,7 @@
 // Where the parts of a written file stand, and the parts that are no table of rows: the header, the heads of
 // the names and of the times, the sections of one value, END, the section list and the last byte.
+#![tactic(auto)]
+
 ghost use Rattle.std.specs.Prelude.{◌≡◌, [], ◌∷◌, ◌+◌, ◌*◌, ◌≤◌, ◌<◌, length};
 ghost use Rattle.lxt_format.specs.Basics.{if◌then◌else◌};
 ghost use Rattle.lxt_format.specs.Buffers.{placed};
@@ -12,7 +14,7 @@ use lxt_pack::put;
 
 // What the places depend on: the number of facilities, the bytes of all names, the offset after the last
 // change, the entries of the time table, and whether a facility is a real.
-#[derive(Drop)]
+#[derive(Clone, Copy)]
 pub struct Sizes {
     pub facilities: usize,
     pub names: usize,
@@ -22,7 +24,7 @@ pub struct Sizes {
 }
 
 // Where the sections start, END, and the length of the file.
-#[derive(Drop)]
+#[derive(Clone, Copy)]
 pub struct Places {
     pub names: usize,
     pub geometry: usize,

@@ -1,6 +1,8 @@
 // Runs `names::name_of`, of whose buffer no contract can speak once a part of it is returned. Of a trace on
 // standard input, for each facility and for the number after the last: the part that is answered, and whether
 // the whole buffer is as `names::length_of` leaves it. At last the same with one byte too little room.
+#![tactic(auto)]
+
 use libc::{STDIN_FILENO, STDOUT_FILENO};
 use lxt_format::{File, NameCursor, NumberAnswer, Summary};
 use lxt_reader::names;

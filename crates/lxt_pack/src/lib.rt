@@ -1,4 +1,6 @@
 // Bytes put into a lent buffer: numbers, parts of a pool, symbols, and a whole change.
+#![tactic(auto)]
+
 pub mod change;
 pub mod parts;
 pub mod put;

@@ -71,7 +71,7 @@ fn higher(a: u8, b: u8) -> u8
 }
 
 // All symbols are the first; all are 0 or 1.
-#[derive(Drop)]
+#[derive(Clone, Copy)]
 pub struct Seen {
     pub same: bool,
     pub bits: bool,
@@ -106,7 +106,7 @@ fn class_of(symbol: u8) -> u8
 }
 
 // All symbols are the first; all are 0 or 1; all are 0, 1, Z or X; all are symbols.
-#[derive(Drop)]
+#[derive(Clone, Copy)]
 pub struct Detail {
     pub same: bool,
     pub bits: bool,

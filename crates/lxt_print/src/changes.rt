@@ -40,7 +40,7 @@ pub fn last_entry(file: &[u8], t: Tables) -> Entry
 }
 
 // The length of a line that was put, and the entry of the time table that gave its time.
-#[derive(Drop)]
+#[derive(Clone, Copy)]
 pub struct Line {
     pub size: usize,
     pub entry: Entry,

@@ -102,7 +102,7 @@ pub fn facility(file: &[u8], t: Tables, f: u32, name: &[u8], out: &mut [u8]) -> 
 }
 
 // The length of a line that was put, and what is left of the names.
-#[derive(Drop)]
+#[derive(Clone, Copy)]
 pub struct NamedLine {
     pub size: usize,
     pub names: NamesLeft,

@@ -20,7 +20,7 @@ use lxt_values::names::NamesLeft;
 
 // The lines that are not put yet: those of the facilities from `facility` on, those of the changes that the
 // tree has left, and the last one.
-#[derive(Drop)]
+#[derive(Clone, Copy)]
 pub struct Rest {
     pub tables: Tables,
     pub facility: u32,
@@ -35,7 +35,7 @@ pub struct Rest {
 }
 
 // What is left to print: the bytes from `at` up to `size` of the line that was put last, and the rest.
-#[derive(Drop)]
+#[derive(Clone, Copy)]
 pub struct Printing {
     pub at: usize,
     pub size: usize,
@@ -53,7 +53,7 @@ impl Printing {
 }
 
 // How many bytes were put into a buffer, whether they are the last, and what is left.
-#[derive(Drop)]
+#[derive(Clone, Copy)]
 pub struct Filled {
     pub size: usize,
     pub done: bool,

@@ -14,7 +14,7 @@ use lxt_tables::{Tables, geometry};
 
 // A question on a chain: the refusal, or 0 with the facts of the root and where its chain starts; and
 // the tables of the file.
-#[derive(Drop)]
+#[derive(Clone, Copy)]
 pub struct Chain {
     pub refusal: u8,
     pub start: u32,

@@ -9,7 +9,7 @@ use lxt_format::{FactsAnswer, NumberAnswer};
 use lxt_tables::{Tables, aliases, geometry};
 
 // A question on a facility: the refusal, or 0 with the facility's root; and the tables of the file.
-#[derive(Drop)]
+#[derive(Clone, Copy)]
 pub struct Asked {
     pub refusal: u8,
     pub root: u32,

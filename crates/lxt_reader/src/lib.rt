@@ -1,5 +1,7 @@
 // The public questions on a trace. Every call judges the file first, takes any bytes and has no
 // requires; a refused call answers its number only and changes nothing that was lent.
+#![tactic(auto)]
+
 pub mod changes;
 pub mod facilities;
 pub mod names;

@@ -10,7 +10,7 @@ use lxt_sections::be32;
 use lxt_values::names;
 
 // A question on a name: the refusal, or 0 with where the names lie, n and M.
-#[derive(Drop)]
+#[derive(Clone, Copy)]
 pub struct NamePlace {
     pub refusal: u8,
     pub at: usize,

@@ -1,5 +1,7 @@
 // Starting a walk and carrying on, over a walk record that is a lent slice of pairs: the public calls of
 // the walk. The record is copied into two arrays of numbers and offsets, which lxt_walk works on, and back.
+#![tactic(auto)]
+
 ghost use Rattle.std.specs.Prelude.{◌≡◌, ◌≤◌, min, length, take};
 ghost use Rattle.lxt_format.specs.Limits.{most_facilities};
 ghost use Rattle.lxt_format.specs.Answers.{start_says, carry_says};

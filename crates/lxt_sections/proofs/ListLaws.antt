@@ -1,6 +1,6 @@
 -- The table of counting values while the section list is read, and a law for each way out of the loop.
 use Prim.Native.Nat.{ℕ, zero, suc, ◌+◌, ◌-◌, ◌≤◌, ◌<◌}
-use mathlib.Core.Path.{◌≡◌, refl, sym, ◌∙◌, ap}
+use mathlib.Core.Path.{◌≡◌, refl, sym, ◌∙◌, ap, subst}
 use mathlib.Core.Bool.{true, false}
 use mathlib.Core.List.{List, [], ◌∷◌, map}
 use lib.ListN.{length, set, replicate}
@@ -30,17 +30,22 @@ values_past i (suc k) tag v met h =
     simp (ne_eqb tag i n) (ap (λ (l : List ℕ). value_in i met ∷ l) (values_past (suc i) k tag v met (omega arith)))
 
 -- a value that is met later takes the place of one met before
+values_at : (i k tag j v : ℕ) (met : List Item) → j ≡ i + tag
+    → set (map (λ t. value_in t met) (range i k)) tag v ≡ map (λ t. value_in t (item j v ∷ met)) (range i k)
+unfolding range value_in
+values_at i zero tag j v met e = refl
+values_at i (suc k) zero j v met e =
+    let P : ℕ → Type 0 = λ n. (v ∷ map (λ t. value_in t met) (range (suc i) k)) ≡ map (λ t. value_in t (item n v ∷ met)) (i ∷ range (suc i) k) in
+    let here : i ≡ j = omega arith in
+    let at_i : P i = simp (eq-eqb i i refl) (ap (λ (l : List ℕ). v ∷ l) (sym (values_past (suc i) k i v met (omega arith)))) in
+    subst P here at_i
+values_at i (suc k) (suc tag) j v met e =
+    let n : j ≡ i → ⊥ = omega arith in
+    simp (ne_eqb j i n) (ap (λ (l : List ℕ). value_in i met ∷ l) (values_at (suc i) k tag j v met (omega arith)))
+
 values_put : (i k tag v : ℕ) (met : List Item)
     → set (map (λ t. value_in t met) (range i k)) tag v ≡ map (λ t. value_in t (item (i + tag) v ∷ met)) (range i k)
-unfolding range value_in
-values_put i zero tag v met = refl
-values_put i (suc k) zero v met =
-    let e : i + 0 ≡ i = omega arith in
-    rw e (simp (eq-eqb i i refl) (ap (λ (l : List ℕ). v ∷ l) (sym (values_past (suc i) k i v met (omega arith)))))
-values_put i (suc k) (suc tag) v met =
-    let n : suc i + tag ≡ i → ⊥ = omega arith in
-    let e : i + suc tag ≡ suc i + tag = omega arith in
-    rw e (simp (ne_eqb (suc i + tag) i n) (ap (λ (l : List ℕ). value_in i met ∷ l) (values_put (suc i) k tag v met)))
+values_put i k tag v met = values_at i k tag (i + tag) v met refl
 
 table_put : (tag v : ℕ) (met : List Item) → set (table_of met) tag v ≡ table_of (item tag v ∷ met)
 unfolding table_of

@@ -1,4 +1,6 @@
 // Big-endian reads, the frame and the section list of a trace: refusals 1 to 9.
+#![tactic(auto)]
+
 ghost use Rattle.std.specs.Prelude.{◌≡◌, true, false, not, ◌&&◌, ◌||◌, ◌+◌, ◌*◌, ◌≤◌, ◌<◌, eqb, length, get_or, set, replicate};
 ghost use Rattle.lxt_format.specs.Bytes.{number_at, u16_at, u32_at};
 ghost use Rattle.lxt_format.specs.Basics.{range, any};
@@ -86,7 +88,7 @@ fn frame(file: &[u8]) -> u8
 const TAGS: usize = 21;
 
 // The section list: whether END was met, the counting value of each tag, and END's offset.
-#[derive(Drop)]
+#[derive(Clone, Copy)]
 pub struct Listing {
     pub listed: bool,
     pub table: [u32; TAGS],
@@ -147,7 +149,7 @@ fn list(file: &[u8]) -> Listing
 // What the section list says, by name: C, where each section starts (0 where it is absent), whether a
 // compressed section is there, and T. `excluded` is tag 13, a table of excluded times; `time_zero` is tag 14,
 // an offset of all times.
-#[derive(Drop)]
+#[derive(Clone, Copy)]
 pub struct Places {
     pub listed: bool,
     pub compressed: bool,
@@ -250,7 +252,7 @@ fn all_inside(p: Places, n: u32, size: usize) -> bool
 
 // The sections of a file that refusals 1 to 9 pass: n, m, C, T, where each section starts (0 where it is
 // absent) and whether its times have 8 bytes; or the refusal's number, and all else 0.
-#[derive(Drop)]
+#[derive(Clone, Copy)]
 pub struct Sections {
     pub refusal: u8,
     pub wide_times: bool,

@@ -75,7 +75,7 @@ pub fn biased(bytes: u64) -> u64
 }
 
 // The deltas of one entry: the bytes of the time's.
-#[derive(Drop)]
+#[derive(Clone, Copy)]
 pub struct Deltas {
     pub position: u32,
     pub time: u64,

@@ -1,4 +1,6 @@
 // The tables of a trace: names, geometry, aliases, times and the real test: refusals 10 to 14.
+#![tactic(auto)]
+
 pub mod aliases; // aliases.rt: refusal 12
 pub mod bodies; // bodies.rt: the bodies of the sections as parts of the file
 pub mod geometry; // geometry.rt: refusal 11 and facts
@@ -11,7 +13,7 @@ pub mod whole; // whole.rt: refusals 1 to 14
 // What refusals 1 to 14 pass: whether times have 8 bytes, n, m, C, T, where each table starts, the
 // offset after the last name, the timescale, the initial symbol and the byte order of reals (all 0 where
 // there is no real facility); or the refusal's number, and all else 0.
-#[derive(Drop)]
+#[derive(Clone, Copy)]
 pub struct Tables {
     pub refusal: u8,
     pub wide_times: bool,

@@ -35,7 +35,7 @@ fn sums_allowed(file: &[u8], at: usize, wide: bool, m: u32, first: u64, high: u6
 
 // What a table with an entry begins with: its first position, and with their bias its first field, its last
 // field and its first time.
-#[derive(Drop)]
+#[derive(Clone, Copy)]
 struct Head {
     position: u64,
     low: u64,

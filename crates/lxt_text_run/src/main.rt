@@ -1,5 +1,7 @@
 // Runs `texts::text_at`, which answers a part of the file or the lent text itself. Of a trace on standard input, for
 // each facility and for the number after the last, at the times 19 and 20: which of the two it is, and the part.
+#![tactic(auto)]
+
 use libc::{STDIN_FILENO, STDOUT_FILENO};
 use lxt_format::{File, Summary, TextAnswer};
 use lxt_reader::texts;

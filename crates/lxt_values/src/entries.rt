@@ -9,7 +9,7 @@ ghost use Rattle.lxt_values.specs.Entries.{EntryAt, Latest};
 use lxt_sections::times::{biased, deltas_of};
 
 // An entry by its number, with its position and its time.
-#[derive(Drop)]
+#[derive(Clone, Copy)]
 pub struct Entry {
     pub number: usize,
     pub position: u64,

@@ -1,4 +1,6 @@
 // The values of changes, their times, and the expanded names.
+#![tactic(auto)]
+
 pub mod entries;
 pub mod names;
 pub mod reals;

@@ -35,7 +35,7 @@ fn clear(names: &mut [u8], from: usize, to: usize)
 
 // What is left of a name table: how many names, where the next one starts, and the length of the name
 // before it, which a buffer holds.
-#[derive(Drop)]
+#[derive(Clone, Copy)]
 pub struct NamesLeft {
     pub left: u32,
     pub at: usize,

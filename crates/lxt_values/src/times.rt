@@ -79,7 +79,7 @@ fn limit(file: &[u8], times: usize, m: u32, wide: bool, t: u64) -> usize
 }
 
 // The offset of a change that was looked for, 0 where there is none, and how many changes were visited.
-#[derive(Drop)]
+#[derive(Clone, Copy)]
 pub struct Found {
     pub offset: usize,
     pub visited: usize,

@@ -2,5 +2,7 @@
 // numbers of the pairs, the other their pending offsets. lxt_record has the public calls, over a slice of
 // pairs. The theorems about them stand in proofs/: demand 3 (Demand, in the words of specs/Calls), wider
 // walks (Wider), and the full list (Full).
+#![tactic(auto)]
+
 pub mod carry;
 pub mod start;

@@ -69,7 +69,7 @@ fn one_if(b: bool) -> usize
 
 // What the first pass finds: whether all is allowed and short enough, the offset after the last change, and
 // the entries of the time table.
-#[derive(Drop)]
+#[derive(Clone, Copy)]
 pub struct Measured {
     pub sound: bool,
     pub end: usize,
@@ -126,7 +126,7 @@ pub fn measure(
 // ---- the second pass
 
 // Where the next entry of the time table goes, and the position and the time of the newest.
-#[derive(Drop)]
+#[derive(Clone, Copy)]
 pub struct Entry {
     pub at: usize,
     pub position: usize,

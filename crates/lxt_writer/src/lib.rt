@@ -1,5 +1,7 @@
 // Writing a trace, in two passes over the input: the first finds whether it is allowed and how long the file
 // is, the second puts its bytes.
+#![tactic(auto)]
+
 ghost use Rattle.std.specs.Prelude.{◌≡◌, length};
 ghost use Rattle.lxt_written.specs.Writing.{write_says, write_asked, write_buffer};
 

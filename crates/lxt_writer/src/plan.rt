@@ -12,7 +12,7 @@ use lxt_layout::Sizes;
 
 // What the first pass finds: whether the input is allowed, and then the sizes of the file's parts and the
 // memory M of the names.
-#[derive(Drop)]
+#[derive(Clone, Copy)]
 pub struct Plan {
     pub sound: bool,
     pub sizes: Sizes,

@@ -1,0 +1,34 @@
+use borrow.Author.Rules.{rules}
+use native.Mathlib.Omega.{arith}
+use Rattle.lxt_sections.proofs.ListLaws.{begun, low, cut, ended, next}
+use Rattle.lxt_sections.proofs.list.Goals as goal
+
+pub items-init : goal.items-init
+items-init c = search begun
+
+pub returns-then-p-lt-FIRST : goal.returns-then-p-lt-FIRST
+returns-then-p-lt-FIRST c = search low
+
+pub bounds-file-p : goal.bounds-file-p
+bounds-file-p c = omega arith
+
+pub overflow_cast-tag : goal.overflow_cast-tag
+overflow_cast-tag c = omega (arith, c.shared_slice_known-in-items-1.given c.items.p)
+
+pub returns-then-p : goal.returns-then-p
+returns-then-p c = search cut
+
+pub be32-requires : goal.be32-requires
+be32-requires c = omega arith
+
+pub overflow_sub-p-in-items : goal.overflow_sub-p-in-items
+overflow_sub-p-in-items c = omega arith
+
+pub items-smaller : goal.items-smaller
+items-smaller c = omega arith
+
+pub items-preserved : goal.items-preserved
+items-preserved c = next _ _ _ c.items.invariant (search rules) (search rules) _ (search rules) _ c.put-next.ensures
+
+pub returns : goal.returns
+returns c = search ended
