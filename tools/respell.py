@@ -78,6 +78,9 @@ def imported(text):
     return names
 
 
+# names that would be a parameter's where both stand in one clause
+TAKEN = {"namesEnd": "after_names"}
+
 # lemmas that the port's own script wrote as the functions that they speak of are written now, and the files that cite them
 LEMMAS = {
     "all_asked": ("WalkLaws", "BeginLaws", "ChangesBackLaws"),
@@ -106,6 +109,7 @@ def main(root):
                 if x != y:
                     words[x] = y
     names.update(words)
+    names.update({a: b for a, b in TAKEN.items() if a in names})
     back = collections.defaultdict(set)
     for a, b in names.items():
         back[b].add(a)

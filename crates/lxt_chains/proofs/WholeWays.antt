@@ -15,7 +15,7 @@ use Rattle.lxt_format.specs.Judge.{tables_refusal, signal_of, fault_from, chains
 use Rattle.lxt_format.specs.Stray.{stray_at, stray_bytes}
 use Rattle.lxt_sections.specs.Stage.{sections_of}
 use Rattle.lxt_sections.specs.declared.Sections.{Sections}
-use Rattle.lxt_tables.specs.Stage.{names_end, tables_of}
+use Rattle.lxt_tables.specs.Stage.{after_names, tables_of}
 use Rattle.lxt_tables.specs.Asked.{Placed}
 use Rattle.lxt_tables.specs.Parts.{Bodies}
 use Rattle.lxt_tables.specs.declared.Tables.{Tables}
@@ -79,7 +79,7 @@ module _ (s : List ℕ) (t : Tables) (e : t ≡ tables_of s) where
   pub count_refused : (t.refusal ≡ 0 → ⊥) → Counts s (record { refusal = t.refusal; stray = 0 })
   count_refused n = record { refusal = (tables_refused s t e n).refusal; stray = λ z. absurd (n z) }
 
-  pub count_asks : (p : Sections) → p ≡ sections_of s → t.refusal ≡ 0 → Placed s p × (t.names_end ≡ names_end s)
+  pub count_asks : (p : Sections) → p ≡ sections_of s → t.refusal ≡ 0 → Placed s p × (t.names_end ≡ after_names s)
   count_asks p ep h = let z = sym (refusal_is s t e) ∙ h in (tables_placed s p ep z, names_end_of s t e z)
 
   module _ (h : t.refusal ≡ 0) (parts : List ℕ) (r : Outcome) (a : Ends s parts r) where

@@ -21,7 +21,7 @@ use Rattle.lxt_format.specs.Stray.{whole_size, in_body}
 use Rattle.lxt_sections.specs.Stage.{found}
 use Rattle.lxt_sections.specs.declared.Sections.{Sections}
 use Rattle.lxt_sections.proofs.PlaceLaws.{outside_more}
-use Rattle.lxt_tables.specs.Stage.{names_end}
+use Rattle.lxt_tables.specs.Stage.{after_names}
 use Rattle.lxt_tables.specs.Asked.{Placed}
 use Rattle.lxt_tables.specs.Parts.{part_of, part_start, part_end, in_part, in_parts, Bodies}
 use Rattle.lxt_tables.proofs.NamesLaws.{end_within}
@@ -151,7 +151,7 @@ all_covered s t once =
           (ap (λ (x : Bool). b 0x02 || (b 0x03 || (b 0x04 || (b 0x05 || x)))) (for_both s t o once (b 0x07) (b 0x08) r)));
     }
 
-module _ (s : List ℕ) (p : Sections) (w : Placed s p) (k : ℕ) (ek : k ≡ names_end s) where
+module _ (s : List ℕ) (p : Sections) (w : Placed s p) (k : ℕ) (ek : k ≡ after_names s) where
   pub names_below : p.names ≤ k
   unfolding found
   names_below = rw w.places (omega arith)

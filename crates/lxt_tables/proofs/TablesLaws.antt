@@ -22,7 +22,7 @@ use Rattle.lxt_format.specs.declared.Kind.{Kind}
 use Rattle.lxt_format.specs.declared.Kind.TheVariants.{Bits, Integer, Real, Text}
 use Rattle.lxt_sections.specs.Stage.{sections_of}
 use Rattle.lxt_sections.specs.declared.Sections.{Sections}
-use Rattle.lxt_tables.specs.Stage.{Geometry, names_end, tables_of}
+use Rattle.lxt_tables.specs.Stage.{Geometry, after_names, tables_of}
 use Rattle.lxt_tables.specs.Asked.{Sync, Times, Placed}
 use Rattle.lxt_tables.specs.declared.Tables.{Tables}
 use Rattle.lxt_tables.proofs.FacilityLaws.{width_fits}
@@ -38,7 +38,7 @@ pub record Known (s : List ℕ) (t : Tables) : Type 0 where
   pub changes : t.changes ≡ changes_from s
   pub sync : t.sync ≡ section_of s 0x02
   pub names : t.names ≡ section_of s 0x03
-  pub names_end_lem : t.names_end ≡ names_end s
+  pub names_end_lem : t.names_end ≡ after_names s
   pub geometry : t.geometry ≡ section_of s 0x04
   pub wide : t.wide_times ≡ wide_times s
   pub times : t.times ≡ times_at s
@@ -97,7 +97,7 @@ module _ (s : List ℕ) (t : Tables) (e : t ≡ tables_of s) where
         times_at_lem = record { start = refl; count = refl; form = refl; limit = refl; low = l.end_low; high = omega (arith, l); inside = omega (arith, l) };
       }
 
-  pub names_end_of : tables_refusal s ≡ 0 → t.names_end ≡ names_end s
+  pub names_end_of : tables_refusal s ≡ 0 → t.names_end ≡ after_names s
   names_end_of z = (known (refusal_is ∙ z)).names_end_lem
 
 -- ---- the sections of a file whose tables pass

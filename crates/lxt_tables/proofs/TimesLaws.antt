@@ -12,7 +12,7 @@ use lib.Dec.{ltb, leb}
 use native.Mathlib.Omega.{arith}
 use native.Mathlib.Numerals.{add-one}
 use native.Mathlib.Decide.{dec_le}
-use borrow.Author.Tests.{lt-ltb, le-ltb, le-leb, lt-leb, leb-true, ltb-true}
+use borrow.Author.Tests.{lt-ltb, le-ltb, le-leb, lt-leb, leb-true}
 use Rattle.lxt_format.specs.Basics.{all}
 use Rattle.lxt_format.specs.BasicsLaws.{and_both, on_test}
 use Rattle.lxt_format.specs.Bytes.{number_at, u32_at, numbers_at, signed}
@@ -177,7 +177,7 @@ module _ (first last : ℤ) (fitf : mag first < bias) (fitl : mag last < bias) w
     rise_outside high g =
         let up = leb-true (biased t) (biased last) (sym (le_z_biased t last f fitl) ∙ high) in
         let far : biased last - biased t < d = omega arith in
-        simp (lt-ltb d bias l, lt-leb d (biased last - biased t) far, positive d l, above_last t last d f fitl g, and-false) (sym (and-false (all non_neg (map time_of_bytes ds))))
+        simp (lt-ltb d bias l, lt-leb d (biased last - biased t) far, positive d l, above_last t last d f fitl g, and-false)
 
   times_rise : (t : ℤ) (ds : List ℕ) → Rises t ds
   unfolding rises_to all sums_by

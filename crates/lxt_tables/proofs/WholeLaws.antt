@@ -27,7 +27,7 @@ use Rattle.lxt_format.specs.Judge.{tables_refusal_by, tables_refusal}
 use Rattle.lxt_format.specs.Stray.{whole_size}
 use Rattle.lxt_sections.specs.Stage.{frame_refusal, counted_refusal, sections_refusal, found, sections_of}
 use Rattle.lxt_sections.specs.declared.Sections.{Sections}
-use Rattle.lxt_tables.specs.Stage.{names_end, refused_tables, tables_of}
+use Rattle.lxt_tables.specs.Stage.{after_names, refused_tables, tables_of}
 use Rattle.lxt_tables.specs.Asked.{OneByte, Placed}
 use Rattle.lxt_tables.specs.Steps.{end_of_names, name_table_end, middle_refusal, passed_tables, last_tables}
 use Rattle.lxt_tables.specs.declared.Tables.{Tables}
@@ -147,7 +147,7 @@ module _ (s : List ℕ) (a : Bool) (ea : a ≡ geometries_allowed s) where
 
 module _ (s : List ℕ) (p : Sections) (w : Placed s p) where
   -- the timescale is read back from its bits
-  pub passed_is : (k : ℕ) → k ≡ names_end s → (t : ℤ) → SFits w8 t → t ≡ timescale_of s → (i : ℕ) → i ≡ initial_of s → (order : List ℕ)
+  pub passed_is : (k : ℕ) → k ≡ after_names s → (t : ℤ) → SFits w8 t → t ≡ timescale_of s → (i : ℕ) → i ≡ initial_of s → (order : List ℕ)
       → record {
         refusal = 0;
         wide_times = p.wide_times;
@@ -255,15 +255,15 @@ unfolding tables_of
 tables_refused s k n e = rw e (simp (ne_eqb k 0 n))
 
 -- names end above their head, so 0 is refusal 10 and nothing else
-ends_high : (s : List ℕ) → 0 < names_end s
+ends_high : (s : List ℕ) → 0 < after_names s
 unfolding whole_size
 ends_high s = omega arith
 
 none_named : (s : List ℕ) → name_table_end s ≡ 0 → names_allowed s ≡ false
 unfolding name_table_end
-none_named s h = on_test (names_allowed s) (λ e. let z : names_end s ≡ 0 = rw e at h in absurd (omega (arith, z, ends_high s))) (λ e. e)
+none_named s h = on_test (names_allowed s) (λ e. let z : after_names s ≡ 0 = rw e at h in absurd (omega (arith, z, ends_high s))) (λ e. e)
 
-some_named : (s : List ℕ) (k : ℕ) → k ≡ name_table_end s → (k ≡ 0 → ⊥) → (names_allowed s ≡ true) × (k ≡ names_end s)
+some_named : (s : List ℕ) (k : ℕ) → k ≡ name_table_end s → (k ≡ 0 → ⊥) → (names_allowed s ≡ true) × (k ≡ after_names s)
 unfolding name_table_end
 some_named s k ek n = on_test (names_allowed s) (λ e. (e, (rw e at ek))) (λ e. absurd (n (rw e at ek)))
 
@@ -283,10 +283,10 @@ module _ (s : List ℕ) (p : Sections) (e : p ≡ sections_of s) where
         q ∙ tables_refused s 10 (eqb-false 10 0 refl) (from_names ∙ rw n)
 
     module _ (n : k ≡ 0 → ⊥) where
-      all_named : (names_allowed s ≡ true) × (k ≡ names_end s)
+      all_named : (names_allowed s ≡ true) × (k ≡ after_names s)
       all_named = some_named s k ek n
 
-      pub names_end_is : k ≡ names_end s
+      pub names_end_is : k ≡ after_names s
       names_end_is = all_named.1
 
       module _ (b : ℕ) (eb : b ≡ middle_refusal s) where

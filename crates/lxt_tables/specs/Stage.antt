@@ -1,5 +1,5 @@
 -- What the functions of this crate answer and ask, by the definitions of the format.
-use Rattle.std.specs.Prelude.{ℕ, ◌+◌, ◌*◌, ◌≤◌, ◌≡◌, false, List, [], length, replicate, pos, eqb}
+use Rattle.std.specs.Prelude.{ℕ, ◌+◌, ◌*◌, ◌≤◌, ◌≡◌, false, List, length, replicate, pos, eqb}
 use Rattle.lxt_format.specs.Basics.{if◌then◌else◌}
 use Rattle.lxt_format.specs.Sections.{section_of, end_of, changes_from, facility_count, wide_times, times_at, time_count, timescale_of, initial_of}
 use Rattle.lxt_format.specs.Reals.{has_real, byte_order}
@@ -14,8 +14,8 @@ pub record Geometry (s : List ℕ) (geometry n : ℕ) : Type 0 where
   pub inside : geometry + 16 * n ≤ length s
 
 -- the offset after the last name
-abbrev pub names_end : List ℕ → ℕ
-names_end s = section_of s 0x03 + whole_size s 0x03
+abbrev pub after_names : List ℕ → ℕ
+after_names s = section_of s 0x03 + whole_size s 0x03
 
 -- a refusal's number, and all else 0
 abbrev pub refused_tables : ℕ → Tables
@@ -49,7 +49,7 @@ tables_of s =
       changes = changes_from s;
       sync = section_of s 0x02;
       names = section_of s 0x03;
-      names_end = names_end s;
+      names_end = after_names s;
       geometry = section_of s 0x04;
       times = times_at s;
       timescale = timescale_of s;

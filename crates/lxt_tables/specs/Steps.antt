@@ -7,7 +7,7 @@ use Rattle.lxt_format.specs.Names.{names_in, within_memory, names_allowed, names
 use Rattle.lxt_format.specs.Geometry.{geometries_allowed, aliases_allowed}
 use Rattle.lxt_format.specs.Times.{times_allowed}
 use Rattle.lxt_format.specs.Reals.{has_real, byte_order, real_test_allowed}
-use Rattle.lxt_tables.specs.Stage.{names_end, refused_tables}
+use Rattle.lxt_tables.specs.Stage.{after_names, refused_tables}
 use Rattle.lxt_tables.specs.declared.Tables.{Tables}
 
 -- the offset after the last of n names that stand from `at` up to `end`; 0 where they break a rule, or M is too small for them
@@ -17,7 +17,7 @@ end_of_names s at end n memory =
 
 -- refusal 10: the offset after the last name of the file, or 0
 unfoldable pub name_table_end : List ℕ → ℕ
-name_table_end s = if names_allowed s then names_end s else 0
+name_table_end s = if names_allowed s then after_names s else 0
 
 -- refusals 11 to 13
 unfoldable pub middle_refusal : List ℕ → ℕ
@@ -38,7 +38,7 @@ passed_tables s order =
       changes = changes_from s;
       sync = section_of s 0x02;
       names = section_of s 0x03;
-      names_end = names_end s;
+      names_end = after_names s;
       geometry = section_of s 0x04;
       times = times_at s;
       timescale = timescale_of s;

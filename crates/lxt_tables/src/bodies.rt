@@ -1,7 +1,7 @@
 // The bodies of a file's sections as parts of the file.
 ghost use Rattle.std.specs.Prelude.{◌≡◌, ◌+◌, ◌*◌, ◌≤◌, ◌<◌, length};
 ghost use Rattle.lxt_format.specs.Bytes.{u32_at};
-ghost use Rattle.lxt_tables.specs.Stage.{names_end};
+ghost use Rattle.lxt_tables.specs.Stage.{after_names};
 ghost use Rattle.lxt_tables.specs.Asked.{Placed};
 ghost use Rattle.lxt_tables.specs.Parts.{part_of, Bodies};
 
@@ -39,7 +39,7 @@ pub const BODIES: usize = 9;
 
 // The parts of all bodies. An absent section starts at 0, and so does not lie inside.
 pub fn bodies(file: &[u8], p: Sections, names_end: u32) -> [u64; BODIES]
-    requires { (Placed file.now p) × (names_end ≡ names_end file.now) }
+    requires { (Placed file.now p) × (names_end ≡ after_names file.now) }
     ensures { Bodies file.now result }
 {
     let n = p.facilities as usize;

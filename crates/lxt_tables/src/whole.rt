@@ -1,7 +1,7 @@
 // The tables of a whole file: refusals 1 to 14, or what passes them.
 ghost use Rattle.std.specs.Prelude.{◌≡◌};
 ghost use Rattle.lxt_sections.specs.Stage.{sections_of};
-ghost use Rattle.lxt_tables.specs.Stage.{names_end, refused_tables, tables_of};
+ghost use Rattle.lxt_tables.specs.Stage.{after_names, refused_tables, tables_of};
 ghost use Rattle.lxt_tables.specs.Asked.{Placed};
 ghost use Rattle.lxt_tables.specs.Steps.{middle_refusal, passed_tables, last_tables};
 
@@ -54,7 +54,7 @@ fn middle(file: &[u8], p: Sections) -> u8
 }
 
 fn passed(file: &[u8], p: Sections, names_end: u32, order: [u8; 8]) -> Tables
-    requires { (Placed file.now p) × (names_end ≡ names_end file.now) }
+    requires { (Placed file.now p) × (names_end ≡ after_names file.now) }
     ensures { result ≡ passed_tables file.now order }
 {
     Tables {
@@ -77,7 +77,7 @@ fn passed(file: &[u8], p: Sections, names_end: u32, order: [u8; 8]) -> Tables
 
 // Refusal 14, or what passes. An absent real test starts at 0, and so does not lie inside.
 fn last(file: &[u8], p: Sections, names_end: u32) -> Tables
-    requires { (Placed file.now p) × (names_end ≡ names_end file.now) }
+    requires { (Placed file.now p) × (names_end ≡ after_names file.now) }
     ensures { result ≡ last_tables file.now }
 {
     if !has_real(file, p.geometry as usize, p.facilities) {

@@ -1,6 +1,6 @@
 use Rattle.lxt_sections.specs.Stage.{wide_in}
 use lib.Dec.{lit≤}
-use borrow.Author.Tests.{not-true, not-false}
+use borrow.Author.Tests.{not-true}
 use Rattle.lxt_sections.proofs.PlaceLaws.{head_out, times_out, bodies_out, too_many, all_found, readable, head_is_4}
 use Rattle.lxt_sections.proofs.counted.Goals as goal
 
