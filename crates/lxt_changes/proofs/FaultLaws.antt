@@ -3,7 +3,7 @@ use Prim.Native.Nat.{ℕ, zero, suc, ◌+◌, ◌-◌, ◌≤◌, ◌<◌, ◌%�
 use mathlib.Core.Path.{◌≡◌, refl, sym, ◌∙◌, ap}
 use mathlib.Core.Logic.{◌⊎◌, inl, inr}
 use mathlib.Core.Bool.{Bool, true, false, ◌&&◌, and_assoc, and-true, and-false}
-use mathlib.Core.List.{List, []}
+use mathlib.Core.List.{List}
 use lib.ListN.{length, get_or}
 use lib.Seq.{slice, get_or-drop, get_or-take, length-slice}
 use lib.Dec.{ltb, leb, lit<}
@@ -26,7 +26,6 @@ use Rattle.lxt_changes.proofs.PaddingLaws.{padding_none}
 use Rattle.lxt_changes.specs.declared.symbols.Window.{Window}
 use Rattle.lxt_changes.specs.declared.symbols.Checked.{Checked}
 use Rattle.lxt_changes.specs.declared.fault.Faulted.{Faulted}
-use Rattle.lxt_changes.specs.declared.fault.Verdict.{Verdict}
 
 -- ---- the last zero
 
