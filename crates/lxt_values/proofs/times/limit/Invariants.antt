@@ -1,0 +1,9 @@
+use Prim.Native.Nat.{◌-◌, ◌≤◌}
+use Rattle.lxt_values.specs.Entries.{EntryAt}
+use Rattle.lxt_values.proofs.times.limit.Given as goal
+
+abbrev pub invariant-loop-e : goal.invariant-loop-e
+invariant-loop-e l = EntryAt l.file l.e.number l.e.position l.e.time × (l.e.time ≤ l.t)
+
+abbrev pub decreases-loop-e : goal.decreases-loop-e
+decreases-loop-e l = l.m - l.e.number
