@@ -6,7 +6,7 @@ use mathlib.Core.List.{List, map}
 use lib.Dec.{lit≤}
 use native.Mathlib.Omega.{arith}
 use Rattle.lxt_format.specs.Limits.{widest_facility}
-use Rattle.lxt_format.specs.Basics.{◌or_else◌, range, all, select, first_fault}
+use Rattle.lxt_format.specs.Basics.{◌or_else◌, range, select, first_fault}
 use Rattle.lxt_format.specs.BasicsLaws.{all_range, on_test}
 use Rattle.lxt_format.specs.Sections.{facility_count}
 use Rattle.lxt_format.specs.Geometry.{is_alias, msb_of, lsb_of, flags_of, kind_of_flags, width_between, geometry_allowed, geometries_allowed, facts_by, own_facts, sync_of}

@@ -76,7 +76,7 @@ module _ (end : Pair → ℕ) where
   apart_either p q = or_comm (leb (end p) q.offset) (leb (end q) p.offset)
 
   -- a change is apart from one that is not above it exactly where that one ends at or below its start
-  apart_under : {l : List Pair} (p : Pair) → p.offset < end p → Below (suc p.offset) l
+  apart_under : (p : Pair) {l : List Pair} → p.offset < end p → Below (suc p.offset) l
       → Each (λ q. apart end p q ≡ leb (end q) p.offset) l
   unfolding apart
   apart_under p h Below.none = Each.none

@@ -1,0 +1,5 @@
+use Rattle.lxt_chains.proofs.GroupLaws.{both_kinds_are}
+use Rattle.lxt_chains.proofs.groups.both_kinds.Goals as goal
+
+pub returns : goal.returns
+returns c = both_kinds_are _ _ _ _ _ c.either-integers.ensures c.either-reals.ensures c.either-texts.ensures
