@@ -10,7 +10,6 @@ use Rattle.lxt_format.specs.BasicsLaws.{stops, neither, kept, answer_given, answ
 use Rattle.lxt_format.specs.Sections.{facility_count}
 use Rattle.lxt_format.specs.Geometry.{is_alias, geometry_allowed, root_of, own_facts, facts_of}
 use Rattle.lxt_format.specs.Judge.{file_refusal}
-use Rattle.lxt_format.specs.JudgeLaws.{passed}
 use Rattle.lxt_format.specs.Questions.{facility_refusal, facts_asked, root_asked}
 use Rattle.lxt_format.specs.declared.Facts.{Facts}
 use Rattle.lxt_tables.specs.Stage.{Geometry, tables_of}

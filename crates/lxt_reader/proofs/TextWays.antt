@@ -1,9 +1,7 @@
 -- A law for each way out of the questions on a text with a lent one in its place.
 use Prim.Native.Nat.{ℕ, ◌+◌, ◌-◌, ◌≤◌, ◌<◌}
 use mathlib.Core.Path.{◌≡◌, refl, sym, ◌∙◌, ap}
-use mathlib.Core.Bool.{false≢true}
-use mathlib.Core.List.{List, [], ◌∷◌}
-use mathlib.Core.Logic.{inl, inr}
+use mathlib.Core.List.{List, []}
 use lib.IntN.{ℤ}
 use lib.ListN.{length, take, drop}
 use lib.Seq.{slice, take-add, drop_at, length-take-le}
@@ -11,9 +9,6 @@ use native.Mathlib.Omega.{arith}
 use mir.Syntax.{w64}
 use mir.Val.{SFits, to_z, of_z}
 use mir.ValLaws.{to_z-of_z}
-use types.Run.{OneOf}
-use denote.Enum.Declared.{tag_of}
-use Rattle.lxt_format.specs.contracts.Kind as K
 use Rattle.lxt_format.specs.Basics.{Answer, given, refused}
 use Rattle.lxt_format.specs.BasicsLaws.{answer_given, answer_refused}
 use Rattle.lxt_format.specs.Bytes.{to_zero}
@@ -24,26 +19,15 @@ use Rattle.lxt_format.specs.Values.{TextSource, in_file, lent_text, other_kind, 
 use Rattle.lxt_format.specs.Answers.{text_says}
 use Rattle.lxt_format.specs.Questions.{facility_refusal, text_asked, part_by, text_part, place_by}
 use Rattle.lxt_format.specs.LentText.{zero_end}
-use Rattle.lxt_format.specs.LentTextLaws.{is_text_lem, text_other, text_start, text_driven, text_inside, part_inside_lem}
+use Rattle.lxt_format.specs.LentTextLaws.{text_other, text_start, text_driven, text_inside, part_inside_lem}
 use Rattle.lxt_format.specs.declared.Kind.{Kind}
-use Rattle.lxt_format.specs.declared.Kind.TheVariants.{Bits, Integer, Real, Text}
+use Rattle.lxt_format.specs.declared.Kind.TheVariants.{Text}
 use Rattle.lxt_format.specs.declared.TextAnswer.{TextAnswer}
 use Rattle.lxt_format.specs.declared.TextAnswer.TheVariants.{File, Lent, OtherKind, Refused}
 use Rattle.lxt_reader.specs.Changing.{Chained}
 use Rattle.lxt_reader.specs.Reading.{TextThere, text_place}
 use Rattle.lxt_reader.specs.declared.changes.Chain.{Chain}
 use Rattle.lxt_reader.proofs.ValueWays.{tables_are, asked_fine, change_is, latest_fine}
-
--- ---- which kind
-
--- a kind of another number than text's
-other_number : (kind : Kind) → OneOf (0 ∷ 1 ∷ 2 ∷ []) (tag_of K.the_type kind) → kind ≡ Text → ⊥
-other_number Bits k e = false≢true (ap is_text_lem e)
-other_number Integer k e = false≢true (ap is_text_lem e)
-other_number Real k e = false≢true (ap is_text_lem e)
-other_number Text (inl k) e = omega arith
-other_number Text (inr (inl k)) e = omega arith
-other_number Text (inr (inr k)) e = omega arith
 
 -- ---- the text of a change
 
@@ -76,8 +60,8 @@ module _ (s : List ℕ) (f : ℕ) (t : ℤ) (lent : ℕ) (c : Chain) (w : Chaine
     unfolding facts_of
     own_kind kind e = e ∙ ap (λ a. a.kind) (w.followed h).facts
 
-    pub text_another : OneOf (0 ∷ 1 ∷ 2 ∷ []) (tag_of K.the_type c.facts.kind) → given other_kind ≡ text_asked s f t lent
-    text_another k = says other_kind (text_other s (root_of s f) t lent (λ e. other_number c.facts.kind k (own_kind _ refl ∙ e)))
+    pub text_another : (c.facts.kind ≡ Text → ⊥) → given other_kind ≡ text_asked s f t lent
+    text_another k = says other_kind (text_other s (root_of s f) t lent (λ e. k (own_kind _ refl ∙ e)))
 
     module _ (e : c.facts.kind ≡ Text) (o visited : ℕ) (found : (o ≡ latest_at s t (chain_of s c.start)) × (visited ≡ visited_in s t (chain_of s c.start))) where
       text_kind : (own_facts s (root_of s f)).kind ≡ Text

@@ -1,0 +1,29 @@
+use Rattle.lxt_values.proofs.BiasLaws.{latest_at_lem}
+use Rattle.lxt_reader.proofs.ValueWays.{latest_asks}
+use Rattle.lxt_reader.proofs.TextWays.{text_refused, text_another, text_lent, text_there, text_found}
+use Rattle.lxt_reader.proofs.texts.place_at.Goals as goal
+
+pub returns-then-chain-ne0 : goal.returns-then-chain-ne0
+returns-then-chain-ne0 c = text_refused _ _ c.args.time _ _ c.find_chain-chain.ensures c.if-chain-ne0.true
+
+pub returns-in_default : goal.returns-in_default
+returns-in_default c = text_another _ _ c.args.time _ _ c.find_chain-chain.ensures c.if-chain-ne0.false c.in_default.not-Text
+
+pub latest-found-requires : goal.latest-found-requires
+latest-found-requires c = latest_asks _ _ c.args.time _ c.find_chain-chain.ensures c.if-chain-ne0.false
+
+pub returns-then-found-eq0 : goal.returns-then-found-eq0
+returns-then-found-eq0 c =
+    let latest = latest_at_lem _ _ c.ranges.time _ _ _ c.latest-found.ensures in
+    text_lent _ _ _ _ _ c.find_chain-chain.ensures c.if-chain-ne0.false c.in-Text.is _ _ latest c.if-found-eq0.true
+
+pub text_of-requires : goal.text_of-requires
+text_of-requires c =
+    let latest = latest_at_lem _ _ c.ranges.time _ _ _ c.latest-found.ensures in
+    text_there _ _ _ 0 _ c.find_chain-chain.ensures c.if-chain-ne0.false c.in-Text.is _ _ latest c.if-found-eq0.false
+
+pub returns : goal.returns
+returns c =
+    let latest = latest_at_lem _ _ c.ranges.time _ _ _ c.latest-found.ensures in
+    text_found _ _ _ _ _ c.find_chain-chain.ensures c.if-chain-ne0.false c.in-Text.is _ _ latest c.if-found-eq0.false _
+    c.text_of.ensures
