@@ -70,3 +70,7 @@ le_pairs (n ∷ ns) (o ∷ os) (suc i) h k = omega (arith, le_pairs ns os i (le_
 
 pub pairs_suc : (d : List Pair) (ns os : List ℕ) (j : ℕ) → j < length d → j < length ns → j < length os → set (over d (paired ns os) j) j (record { number = get_or ns j 0; offset = get_or os j 0 }) ≡ over d (paired ns os) (j + 1)
 pairs_suc d ns os j hd hn ho = ap (set (over d (paired ns os) j) j) (sym (pairs_at ns os j hn ho)) ∙ over_suc d (paired ns os) j none hd (lt_pairs ns os j hn ho)
+
+pub pairs_turn : (d l : List Pair) (ns os : List ℕ) (j : ℕ) → l ≡ over d (paired ns os) j → j < length d → j < length ns → j < length os
+    → set l j (record { number = get_or ns j 0; offset = get_or os j 0 }) ≡ over d (paired ns os) (j + 1)
+pairs_turn d l ns os j e hd hn ho = rw e (pairs_suc d ns os j hd hn ho)
