@@ -2,7 +2,7 @@
 use Prim.Native.Nat.{ℕ, zero, suc, ◌+◌, ◌*◌, ◌-◌, ◌≤◌, ◌<◌, ◌/◌, ◌^◌}
 use Rattle.std.specs.Prelude.{◌≡◌, Bool, false, length, get_or, drop, ltb, eqb}
 use Rattle.std.proofs.Math.Path.{refl}
-use Rattle.std.proofs.Common.{sym, ap, ◌∙◌, length-append, get_or-drop, lit<, pow-add, mul-suc}
+use Rattle.std.proofs.Common.{subst, sym, ap, ◌∙◌, length-append, get_or-drop, lit<, pow-add, mul-suc}
 use Rattle.std.proofs.Math.Bool.{true, false≢true}
 use mathlib.Core.List.{List, [], ◌∷◌, map}
 use Rattle.std.proofs.Math.Arith.{digits_lt}
@@ -90,7 +90,7 @@ module _ (p q : ℕ → Bool) where
 one_is_first : (b : ℕ) (l : List ℕ) → all (λ x. eqb x b) l ≡ true → all (λ x. eqb x (get_or l 0 0)) l ≡ true
 unfolding all
 one_is_first b [] h = refl
-one_is_first b (x ∷ l) h = let e = eqb-true x b (and_both (eqb x b) (all (λ y. eqb y b) l) h).0 in rw e (rw e at h)
+one_is_first b (x ∷ l) h = let e = eqb-true x b (and_both (eqb x b) (all (λ y. eqb y b) l) h).0 in subst (λ (z : ℕ). all (λ y. eqb y z) (x ∷ l) ≡ true) (sym e) h
 
 -- ---- the least of a selection
 
