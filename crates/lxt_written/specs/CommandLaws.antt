@@ -90,7 +90,8 @@ module _ (p q : ℕ → Bool) where
 one_is_first : (b : ℕ) (l : List ℕ) → all (λ x. eqb x b) l ≡ true → all (λ x. eqb x (get_or l 0 0)) l ≡ true
 unfolding all
 one_is_first b [] h = refl
-one_is_first b (x ∷ l) h = let e = eqb-true x b (and_both (eqb x b) (all (λ y. eqb y b) l) h).0 in subst (λ (z : ℕ). all (λ y. eqb y z) (x ∷ l) ≡ true) (sym e) h
+one_is_first b (x ∷ l) h = let e = eqb-true x b (and_both (eqb x b) (all (λ y. eqb y b) l) h).0 in
+    subst (λ (z : ℕ). all (λ y. eqb y z) (x ∷ l) ≡ true) (sym e) h
 
 -- ---- the least of a selection
 
