@@ -1,0 +1,16 @@
+use lib.ListN.{length-set}
+use native.Mathlib.Omega.{arith}
+use Rattle.lxt_pack.proofs.PutLaws.{put_four}
+use Rattle.lxt_pack.proofs.put.four.Goals as goal
+
+pub bounds-out-at-2 : goal.bounds-out-at-2
+bounds-out-at-2 c = simp length-set (omega (arith, c.requires))
+
+pub bounds-out-at-3 : goal.bounds-out-at-3
+bounds-out-at-3 c = simp length-set (omega (arith, c.requires))
+
+pub bounds-out-at-4 : goal.bounds-out-at-4
+bounds-out-at-4 c = simp length-set (omega (arith, c.requires))
+
+pub returns : goal.returns
+returns c = put_four _ _ _ c.requires
