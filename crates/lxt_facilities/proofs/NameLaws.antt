@@ -3,13 +3,13 @@ use Prim.Native.Nat.{ℕ, suc, ◌+◌, ◌*◌, ◌-◌, ◌≤◌, ◌<◌, mi
 use native.Mathlib.Omega.{arith}
 use native.Mathlib.Nat.{add-zero}
 use mathlib.Core.Path.{◌≡◌, refl, sym, ap, ◌∙◌}
-use mathlib.Core.Bool.{Bool, true, false, not, ◌&&◌, ◌||◌, or_assoc, or-false, false≢true}
+use mathlib.Core.Bool.{Bool, true, false, ◌&&◌, ◌||◌, or_assoc, or-false, false≢true}
 use mathlib.Core.List.{List, [], ◌∷◌, ◌++◌, map}
 use lib.ListN.{length, get_or, drop, length-append, length-drop}
 use lib.Seq.{slice, slice-cons, slice_empty, drop-cons, drop-drop, drop-length, length-slice}
 use lib.Dec.{leb, eqb}
 use native.Mathlib.Decide.{dec_le, ℕ_discrete}
-use borrow.Author.Tests.{leb-true, eq-eqb, ne_eqb, not-true, not-false}
+use borrow.Author.Tests.{leb-true, eq-eqb, ne_eqb}
 use Rattle.lxt_format.specs.Limits.{longest_name, widest_facility}
 use Rattle.lxt_format.specs.Basics.{all, any}
 use Rattle.lxt_format.specs.BasicsLaws.{and_both}
@@ -222,9 +222,9 @@ module _ (rows : List (List ℕ)) (names : List ℕ) (f : ℕ) (h : f < length r
 module _ {rows : List (List ℕ)} {names : List ℕ} {size memory : ℕ} {real : Bool} {before held f : ℕ} (w : Measuring rows names size memory real before held f) where
   module _ (h : f < length rows) {ok : Bool} (eo : ok ≡ row_allowed names (get_or rows f [])) where
     -- a row is not allowed
-    pub measure_stop : not ok ≡ true → FacilitiesMeasured names rows (record { sound = false; size = 0; memory = 0; real = false })
+    pub measure_stop : ok ≡ false → FacilitiesMeasured names rows (record { sound = false; size = 0; memory = 0; real = false })
     measure_stop n =
-        let bad : row_allowed names (get_or rows f []) ≡ false = sym eo ∙ not-true ok n in
+        let bad : row_allowed names (get_or rows f []) ≡ false = sym eo ∙ n in
         let none : false ≡ facilities_allowed names rows = rw (bad) at (sym (allowed_next rows names f h) ∙ w.allowed) in
         record {
           sound = none;
@@ -236,11 +236,11 @@ module _ {rows : List (List ℕ)} {names : List ℕ} {size memory : ℕ} {real :
         }
 
     -- a row that is allowed keeps what is asked of its name
-    pub kept_here : not ok ≡ false → RowKept names (get_or rows f [])
-    kept_here n = row_kept names (get_or rows f []) (sym eo ∙ not-false ok n)
+    pub kept_here : ok ≡ true → RowKept names (get_or rows f [])
+    kept_here n = row_kept names (get_or rows f []) (sym eo ∙ n)
 
     -- and is measured
-    pub measure_turn : not ok ≡ false → {k : ℕ} → k ≡ shared (part names before held) (part names (get_or (get_or rows f []) 0 0) (get_or (get_or rows f []) 1 0))
+    pub measure_turn : ok ≡ true → {k : ℕ} → k ≡ shared (part names before held) (part names (get_or (get_or rows f []) 0 0) (get_or (get_or rows f []) 1 0))
         → Measuring rows names (size + (3 + (get_or (get_or rows f []) 1 0 - k))) (memory + (get_or (get_or rows f []) 1 0 + 1)) (real || eqb (get_or (get_or rows f []) 2 0) 2)
         (get_or (get_or rows f []) 0 0) (get_or (get_or rows f []) 1 0) (f + 1)
     unfolding memory_of
@@ -248,7 +248,7 @@ module _ {rows : List (List ℕ)} {names : List ℕ} {size memory : ℕ} {real :
         let row : List ℕ = get_or rows f [] in
         let name : List ℕ = part names (get_or row 0 0) (get_or row 1 0) in
         let rest : List (List ℕ) = names_in names (drop (f + 1) rows) in
-        let good : row_allowed names row ≡ true = sym eo ∙ not-false ok n in
+        let good : row_allowed names row ≡ true = sym eo ∙ n in
         let kept = row_kept names row good in
         let long : length name ≡ get_or row 1 0 = part_long names (get_or row 0 0) (get_or row 1 0) kept.inside in
         let a : facilities_allowed names (drop (f + 1) rows) ≡ facilities_allowed names rows = rw good at (sym (allowed_next rows names f h) ∙ w.allowed) in
