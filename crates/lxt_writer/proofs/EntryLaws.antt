@@ -6,7 +6,7 @@ use mathlib.Core.Bool.{Bool, true, false, not, true≢false}
 use mathlib.Core.List.{List, ◌∷◌, ◌++◌, append_assoc}
 use lib.ListN.{length, drop, length-append}
 use lib.Dec.{eqb}
-use borrow.Author.Tests.{eqb-true, not-true, not-false}
+use borrow.Author.Tests.{eqb-true, not-false}
 use Rattle.lxt_format.specs.Basics.{joined}
 use Rattle.lxt_format.specs.BasicsLaws.{on_test, or_none}
 use Rattle.lxt_format.specs.Buffers.{placed, length_placed}
@@ -27,18 +27,18 @@ old_time o time t h = eqb-true t time (not-false _ (or_none (eqb o 4) (not (eqb 
 
 module _ (out : List ℕ) (e : Entry) (gap o t : ℕ) (b : Bool) (is : b ≡ is_new o e.time t) where
   -- it gets none
-  pub entry_none : not b ≡ true → EntryPut out e gap o t out e
+  pub entry_none : b ≡ false → EntryPut out e gap o t out e
   entry_none h =
       record {
         old = λ y. (refl, refl);
-        new = λ y. absurd (true≢false (sym (is ∙ y) ∙ not-true b h));
+        new = λ y. absurd (true≢false (sym (is ∙ y) ∙ h));
       }
 
   -- it gets one
-  pub entry_is_new : not b ≡ false → is_new o e.time t ≡ true
-  entry_is_new h = sym is ∙ not-false b h
+  pub entry_is_new : b ≡ true → is_new o e.time t ≡ true
+  entry_is_new h = sym is ∙ h
 
-  pub entry_given : not b ≡ false → (one two : List ℕ) → one ≡ placed out e.at (big_endian 4 (o - e.position))
+  pub entry_given : b ≡ true → (one two : List ℕ) → one ≡ placed out e.at (big_endian 4 (o - e.position))
       → two ≡ placed one (e.at + gap) (big_endian 4 (t - e.time)) → EntryPut out e gap o t two (record { at = e.at + 4; position = o; time = t })
   entry_given h one two first second =
       record {

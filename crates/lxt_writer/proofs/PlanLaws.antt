@@ -15,7 +15,7 @@ use Rattle.lxt_format.specs.BasicsLaws.{on_test, and_both, both_and}
 use Rattle.lxt_format.specs.Sections.{timescale_allowed}
 use Rattle.lxt_format.specs.declared.Pair.{Pair}
 use Rattle.lxt_written.specs.Input.{Change, Trace, facility_of, change_of, trace_of, facility_row_allowed, change_row_allowed, rows_allowed}
-use Rattle.lxt_written.specs.WrittenChanges.{numbered, lay_at, lay_from, laid, changes_bytes}
+use Rattle.lxt_written.specs.WrittenChanges.{numbered, pair_of, lay_at, lay_from, laid, changes_bytes}
 use Rattle.lxt_written.specs.WrittenFile.{header, names_of, entries_of, any_real, sections_of, list_bytes, places_of, file_of}
 use Rattle.lxt_written.specs.Writing.{name_allowed, facts_for, facility_allowed, value_of_allowed, changes_allowed, trace_allowed, input_allowed}
 use Rattle.lxt_layout.specs.declared.Sizes.{Sizes}
@@ -65,7 +65,7 @@ module _ (names : List ℕ) where
     lay_nameless : (o : ℕ) (before : List Pair) (cs : List Change) → lay_from (map (facility_of names) rows) o before cs ≡ lay_from (nameless rows) o before cs
     unfolding lay_from
     lay_nameless o before [] = refl
-    lay_nameless o before (c ∷ cs) = rw (laid_same o before c) (ap (λ l. lay_at (nameless rows) o before c ∷ l) (lay_nameless _ _ cs))
+    lay_nameless o before (c ∷ cs) = rw (laid_same o before c) (ap (λ l. lay_at (nameless rows) o before c ∷ l) (lay_nameless (o + length (lay_at (nameless rows) o before c).bytes) (pair_of (lay_at (nameless rows) o before c) ∷ before) cs))
 
     value_same : (f : ℕ) (value : List ℕ) → value_of_allowed (map (facility_of names) rows) f value ≡ value_of_allowed (nameless rows) f value
     unfolding value_of_allowed
@@ -203,8 +203,8 @@ module _ (facilities : List (List ℕ)) (names : List ℕ) (changes : List (List
       }
 
   -- each of the three parts that are found first refuses the whole
-  pub values_refused : (b : Bool) → b ≡ values_allowed → not b ≡ true → input_allowed facilities names changes values initial timescale ≡ false
-  values_refused b e n = input_parts ∙ rw (sym e ∙ not-true b n)
+  pub values_refused : (b : Bool) → b ≡ values_allowed → b ≡ false → input_allowed facilities names changes values initial timescale ≡ false
+  values_refused b e n = input_parts ∙ rw (sym e ∙ n)
 
   pub facilities_refused : (m : Facilities) → FacilitiesMeasured names facilities m → not m.sound ≡ true
       → input_allowed facilities names changes values initial timescale ≡ false
@@ -225,9 +225,9 @@ module _ (facilities : List (List ℕ)) (names : List ℕ) (changes : List (List
 
   -- ---- where all is allowed but for the length of the file
 
-  module _ (b : Bool) (vb : b ≡ values_allowed) (vn : not b ≡ false) where
+  module _ (b : Bool) (vb : b ≡ values_allowed) (vn : b ≡ true) where
     pub count_small : length facilities ≤ most_facilities
-    count_small = count_of (sym vb ∙ not-false b vn)
+    count_small = count_of (sym vb ∙ vn)
 
     module _ (f : Facilities) (fm : FacilitiesMeasured names facilities f) (fn : not f.sound ≡ false) where
       facilities_yes : facilities_allowed names facilities ≡ true
@@ -275,7 +275,7 @@ module _ (facilities : List (List ℕ)) (names : List ℕ) (changes : List (List
             let n = count_small in
             let cs : changes_sound ≡ true = sound_parts (sym cm.sound ∙ not-false c.sound cn) in
             record {
-              sound = sym (input_parts ∙ rw (sym vb ∙ not-false b vn, facilities_yes, cs, ← file_long trace sizes p sizes_measure pf));
+              sound = sym (input_parts ∙ rw (sym vb ∙ vn, facilities_yes, cs, ← file_long trace sizes p sizes_measure pf));
               sizes = λ y. sizes_measure;
               bounded = λ y. sizes_bounded;
               memory = λ y. fm.memory z;
