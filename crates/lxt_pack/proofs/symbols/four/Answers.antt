@@ -3,7 +3,7 @@ use Rattle.lxt_pack.proofs.symbols.four.Goals as goal
 
 pub returns : goal.returns
 returns c =
-    let bytes = c.shared_slice_known-1.given in
+    let bytes = c.type_inv.values in
     let first = c.code_of_four.ensures.0 in
     let second = c.code_of_four-2.ensures.0 in
     let third = c.code_of_four-3.ensures.0 in

@@ -3,5 +3,5 @@ use Rattle.lxt_pack.proofs.symbols.two.Goals as goal
 
 pub returns : goal.returns
 returns c =
-    let bytes = c.shared_slice_known-1.given in
+    let bytes = c.type_inv.values in
     two_is _ _ (λ i. (bytes i).fits) c.requires _ _ c.code_of.ensures.0 c.code_of-2.ensures.0
