@@ -1,2 +1,0 @@
--- The rules of the calls that the walk's functions make.
-mod Called
