@@ -11,7 +11,6 @@ use lib.Dec.{leb, eqb}
 use borrow.Author.Tests.{leb-true, eqb-true, eq-eqb, ne_eqb, not-true, not-false}
 use Rattle.lxt_format.specs.Basics.{if◌then◌else◌, any, joined}
 use Rattle.lxt_format.specs.BasicsLaws.{and_both, or_none, on_zero}
-use Rattle.lxt_format.specs.BytesLaws.{AreBytes}
 use Rattle.lxt_format.specs.Columns.{onto}
 use Rattle.lxt_format.specs.Sections.{time_count, end_of}
 use Rattle.lxt_format.specs.Geometry.{roots_of, sync_of}

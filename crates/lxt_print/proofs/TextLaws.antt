@@ -1,17 +1,15 @@
 -- Laws of text that is put into a buffer, and of numbers as text.
 use Prim.Native.Nat.{ℕ, zero, suc, ◌+◌, ◌*◌, ◌-◌, ◌/◌, ◌%◌, ◌≤◌, ◌<◌}
-use native.Mathlib.Nat.{add-zero, zero-add}
 use native.Mathlib.Omega.{arith}
 use native.Mathlib.Decide.{dec_le}
 use mathlib.Core.Path.{◌≡◌, refl, sym, ap, ◌∙◌}
 use mathlib.Core.List.{List, [], ◌∷◌, ◌++◌, append_assoc}
-use lib.ListN.{length, get_or, set, take, drop, length-append, length-drop, length-set, take-append-drop}
-use lib.Seq.{length-take-le, take_all, take-suc, take_at, drop_at, set_at, drop-cons, drop-drop, append_snoc, take-set-le, drop-set-lt}
+use lib.ListN.{length, get_or, set, take, length-append, length-set}
+use lib.Seq.{length-take-le, take_all, take-suc}
 use lib.Dec.{eqb}
 use borrow.Author.Tests.{lt-ltb, le-ltb, eq-eqb, ne_eqb}
 use Rattle.lxt_format.specs.Basics.{if◌then◌else◌, joined}
 use Rattle.lxt_format.specs.Changes.{digits}
-use Rattle.lxt_format.specs.Columns.{onto}
 use Rattle.lxt_print.specs.Lines.{decimal_within, decimal, hex_digit, hex_byte, hex_bytes}
 use Rattle.lxt_print.specs.Placing.{Put}
 use Rattle.lxt_format.specs.Buffers.{placed, placed_none, placed_byte, placed_before}

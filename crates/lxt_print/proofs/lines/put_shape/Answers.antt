@@ -1,0 +1,23 @@
+use mathlib.Core.Path.{sym, ◌∙◌}
+use Rattle.lxt_print.proofs.LineLaws.{put_more, put_is, geometry_there, own_asks, alias_end, facts_end}
+use borrow.Author.Rules.{rules}
+use Rattle.lxt_print.proofs.lines.put_shape.Goals as goal
+
+pub is_alias-requires : goal.is_alias-requires
+is_alias-requires c = (geometry_there _ _ c.requires.0 _ c.requires.1.0, c.requires.1.0)
+
+pub root-requires : goal.root-requires
+root-requires c = geometry_there _ _ c.requires.0 _ c.requires.1.0
+
+pub returns-then-is_alias : goal.returns-then-is_alias
+returns-then-is_alias c = (put_is (alias_end _ _ _ c.is_alias.ensures c.if-is_alias.true _ c.root.ensures) (put_more c.put_bytes-p.ensures c.put_decimal.ensures.0), search rules)
+
+pub own_facts-facts-requires : goal.own_facts-facts-requires
+own_facts-facts-requires c =
+    let all = own_asks _ _ c.requires.0 _ c.requires.1.0 (sym c.is_alias.ensures ∙ c.if-is_alias.false) in
+    record { geometry = all.0; f_value = all.1.0; f_value_2 = all.1.1 }
+
+pub returns : goal.returns
+returns c =
+    let kind = put_more c.put_kind-q.ensures.0 c.put_bytes-r.ensures in
+    (put_is (facts_end _ _ _ c.is_alias.ensures c.if-is_alias.false _ c.own_facts-facts.ensures) (put_more kind c.put_decimal-2.ensures.0), search rules)

@@ -1,0 +1,6 @@
+use borrow.Author.Rules.{rules}
+use Rattle.lxt_print.proofs.BeginLaws.{blank}
+use Rattle.lxt_print.proofs.printing.plant.Goals as goal
+
+pub start-requires : goal.start-requires
+start-requires c = (search rules, (search rules, search blank))
