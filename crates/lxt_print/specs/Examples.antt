@@ -1,6 +1,5 @@
 -- "For the trace below it prints four lines, exactly"; lines of refused files; and both sides of the longest file that is printed.
 use Rattle.std.specs.Prelude.{◌≡◌, refl, List, [], ◌∷◌, ◌++◌, length, set, eqb, ℕ}
-use Rattle.std.proofs.Common.{◌∙◌}
 use Rattle.lxt_format.specs.Basics.{if◌then◌else◌}
 use Rattle.lxt_format.specs.Changes.{digits}
 use Rattle.lxt_format.specs.Judge.{file_refusal}
@@ -103,7 +102,8 @@ module _ (s : List ℕ) where
   longer h = rw h
 
   pub refused_longer : length s ≡ 65537 → printed s ≡ spelled 10 0x7265667573656420310A
-  refused_longer h = longer h ∙ refused_1
+  unfolding print_refusal printed
+  refused_longer h = rw h refused_1
 
   -- the longest is judged
   pub judged_longest : length s ≡ 65536 → printed s ≡ (if eqb (file_refusal s) 0 then accepted_text s else refused_line (file_refusal s))
