@@ -1,6 +1,6 @@
 -- The answers of the C functions: 0 or the refusal's number, and the numbers of an answer.
-use Rattle.std.specs.Prelude.{ℕ, Bool, List, [], ◌∷◌, ℤ}
-use Rattle.lxt_format.specs.Basics.{if◌then◌else◌, Answer, given, refused}
+use Rattle.std.specs.Prelude.{ℕ, Bool, List, [], ◌∷◌, ℤ, if◌then◌else◌}
+use Rattle.lxt_format.specs.Basics.{Answer, given, refused}
 use Rattle.lxt_format.specs.Values.{TextSource, in_file, lent_text, other_kind}
 use Rattle.lxt_format.specs.Answers.{Shown, bits_of, real_of, text_of, nothing, Timed, LookedUp}
 use Rattle.lxt_format.specs.declared.Summary.{Summary}

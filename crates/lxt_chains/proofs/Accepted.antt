@@ -11,9 +11,10 @@ use Rattle.lxt_format.specs.BasicsLaws.{on_zero}
 use Rattle.lxt_format.specs.Sections.{facility_count, end_of}
 use Rattle.lxt_format.specs.Geometry.{is_alias, roots_of, sync_of}
 use Rattle.lxt_format.specs.Changes.{previous_of}
-use Rattle.lxt_format.specs.ChangesLaws.{previous_lt, Sound, end_after}
+use Rattle.lxt_format.proofs.ChangesLaws.{previous_lt, end_after}
+use Rattle.lxt_format.specs.Changes.{Sound}
 use Rattle.lxt_format.specs.Judge.{signal_of, fault_from, chains_refusal, changes_of, all_changes, end_at, changes_apart}
-use Rattle.lxt_format.specs.JudgeLaws.{newest_sound}
+use Rattle.lxt_format.proofs.JudgeLaws.{newest_sound}
 use Rattle.lxt_format.specs.Walk.{sort}
 use Rattle.lxt_format.specs.declared.Pair.{Pair}
 use Rattle.lxt_chains.specs.Pending.{chain_pairs, pending_changes, root_offsets, Each, stacked, Allowed}

@@ -1,4 +1,5 @@
 -- Lists of changes root by root, against the pending offsets from which they follow.
+use Rattle.std.specs.Prelude.{if◌then◌else◌}
 use Prim.Native.Nat.{ℕ, zero, suc, ◌+◌, ◌<◌}
 use native.Mathlib.Nat.{zero-add}
 use native.Mathlib.Omega.{arith}
@@ -6,7 +7,7 @@ use mathlib.Core.Path.{◌≡◌, refl, ap, ◌∙◌}
 use mathlib.Core.Bool.{Bool, not}
 use mathlib.Core.List.{List, map}
 use lib.ListN.{length, get_or, length-map}
-use Rattle.lxt_format.specs.Basics.{if◌then◌else◌, range, select, joined}
+use Rattle.lxt_format.specs.Basics.{range, select, joined}
 use Rattle.lxt_format.specs.BasicsLaws.{on_test, length_range}
 use Rattle.lxt_format.specs.Sections.{facility_count}
 use Rattle.lxt_format.specs.Geometry.{is_alias, roots_of, sync_of}

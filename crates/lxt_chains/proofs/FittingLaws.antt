@@ -11,7 +11,7 @@ use Rattle.lxt_format.specs.BasicsLaws.{and_both, both_and, neither}
 use Rattle.lxt_format.specs.Sections.{end_of}
 use Rattle.lxt_format.specs.Geometry.{roots_of, sync_of}
 use Rattle.lxt_format.specs.Changes.{previous_of, chain_of, fault_at, chain_fault, chain_clean}
-use Rattle.lxt_format.specs.ChangesLaws.{chain_more}
+use Rattle.lxt_format.proofs.ChangesLaws.{chain_more}
 use Rattle.lxt_format.specs.Judge.{signal_of, fault_from, clean_from, chains_refusal, changes_of, all_changes, end_at, changes_apart, all_clean}
 use Rattle.lxt_format.specs.declared.Pair.{Pair}
 use Rattle.lxt_chains.specs.Pending.{pending_changes, root_offsets, Each, Allowed, stacked}

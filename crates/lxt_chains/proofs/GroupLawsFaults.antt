@@ -13,7 +13,7 @@ use borrow.Author.Tests.{eqb-true, eq-eqb, ne_eqb}
 use Rattle.lxt_format.specs.BasicsLaws.{on_zero}
 use Rattle.lxt_format.specs.Sections.{changes_from, end_of}
 use Rattle.lxt_format.specs.Changes.{signal, previous_of, fault_at, chain_fault}
-use Rattle.lxt_format.specs.ChangesLaws.{previous_lt, faults_none, faults_next, faults_here, sound}
+use Rattle.lxt_format.proofs.ChangesLaws.{previous_lt, faults_none, faults_next, faults_here, sound}
 use Rattle.lxt_format.specs.declared.Kind.{Kind}
 use Rattle.lxt_format.specs.declared.Kind.TheVariants.{Bits, Integer, Real, Text}
 use Rattle.lxt_changes.proofs.Narrower.{narrower}

@@ -9,7 +9,8 @@ use lib.ListN.{length, get_or, set, length-set, get_or-eq_default}
 use lib.Seq.{get_or-set_same, get_or-set_other}
 use Rattle.lxt_format.specs.Limits.{widest_facility}
 use Rattle.lxt_format.specs.Changes.{data_at, previous_of, change_end}
-use Rattle.lxt_format.specs.ChangesLaws.{previous_lt, Sound, sound}
+use Rattle.lxt_format.proofs.ChangesLaws.{previous_lt, sound}
+use Rattle.lxt_format.specs.Changes.{Sound}
 use Rattle.lxt_format.specs.Walk.{top, high}
 use Rattle.lxt_changes.specs.Windows.{Known}
 use Rattle.lxt_changes.specs.declared.symbols.Window.{Window}

@@ -11,7 +11,7 @@ use Rattle.lxt_format.specs.Limits.{widest_facility}
 use Rattle.lxt_format.specs.BasicsLaws.{on_zero}
 use Rattle.lxt_format.specs.Geometry.{is_alias, msb_of, lsb_of, flags_of, kind_of_flags, width_between, facts_by, own_facts, geometry_allowed}
 use Rattle.lxt_format.specs.Judge.{signal_of, fault_from}
-use Rattle.lxt_format.specs.ChangesLaws.{faults_none}
+use Rattle.lxt_format.proofs.ChangesLaws.{faults_none}
 use Rattle.lxt_format.specs.declared.Kind.{Kind}
 use Rattle.lxt_format.specs.declared.Kind.TheVariants.{Bits, Integer, Real, Text}
 use Rattle.lxt_format.specs.declared.Facts.{Facts}

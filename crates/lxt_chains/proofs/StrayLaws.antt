@@ -10,9 +10,9 @@ use Rattle.lxt_format.specs.Basics.{any}
 use Rattle.lxt_format.specs.BasicsLaws.{on_test, and_both}
 use Rattle.lxt_format.specs.Sections.{end_of, changes_from}
 use Rattle.lxt_format.specs.Changes.{fault_at}
-use Rattle.lxt_format.specs.ChangesLaws.{sound, end_after}
+use Rattle.lxt_format.proofs.ChangesLaws.{sound, end_after}
 use Rattle.lxt_format.specs.Judge.{tables_refusal, signal_of, all_changes, end_at}
-use Rattle.lxt_format.specs.JudgeLaws.{passed, passed_located}
+use Rattle.lxt_format.proofs.JudgeLaws.{passed, passed_located}
 use Rattle.lxt_format.specs.Walk.{insert, sort, top, high, step}
 use Rattle.lxt_format.specs.Stray.{in_change, stray_at, stray_bytes}
 use Rattle.lxt_format.specs.declared.Pair.{Pair}

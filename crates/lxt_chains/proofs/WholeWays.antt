@@ -1,4 +1,5 @@
 -- A law for each way out of the checks of a whole file.
+use Rattle.std.specs.Prelude.{if◌then◌else◌}
 use Prim.Native.Nat.{ℕ, zero, suc, ◌+◌, ◌-◌, ◌/◌, ◌≤◌, ◌<◌}
 use mathlib.Core.Path.{◌≡◌, sym, ◌∙◌}
 use mathlib.Core.Bool.{Bool, true, false}
@@ -6,11 +7,11 @@ use mathlib.Core.List.{List, map}
 use lib.ListN.{length, get_or, get_or-eq_default}
 use native.Mathlib.Omega.{arith}
 use native.Mathlib.Decide.{dec_le, ℕ_discrete}
-use Rattle.lxt_format.specs.Basics.{if◌then◌else◌, range, first_fault}
+use Rattle.lxt_format.specs.Basics.{range, first_fault}
 use Rattle.lxt_format.specs.BasicsLaws.{on_test, on_zero, stops, fault_next, fault_here}
 use Rattle.lxt_format.specs.Sections.{facility_count, end_of}
 use Rattle.lxt_format.specs.Geometry.{is_alias, roots_of}
-use Rattle.lxt_format.specs.ChangesLaws.{faults_none}
+use Rattle.lxt_format.proofs.ChangesLaws.{faults_none}
 use Rattle.lxt_format.specs.Judge.{tables_refusal, signal_of, fault_from, chains_refusal, changes_apart, file_refusal, all_clean}
 use Rattle.lxt_format.specs.Stray.{stray_at, stray_bytes}
 use Rattle.lxt_sections.specs.Stage.{sections_of}

@@ -1,8 +1,8 @@
 -- What the functions of this crate ask of a file and of what it is read with.
-use Rattle.std.specs.Prelude.{ℕ, ◌≤◌, ◌<◌, ◌≡◌, Bool, true, List, length, get_or}
+use Rattle.std.specs.Prelude.{ℕ, ◌≤◌, ◌<◌, ◌≡◌, Bool, true, List, length, get_or, if◌then◌else◌}
 use Rattle.lxt_format.specs.Limits.{longest_file, most_facilities}
 use Rattle.lxt_format.specs.Sections.{end_of, changes_from}
-use Rattle.lxt_format.specs.Basics.{if◌then◌else◌, ◌unless◌, ◌or_else◌}
+use Rattle.lxt_format.specs.Basics.{◌unless◌, ◌or_else◌}
 use Rattle.lxt_format.specs.Geometry.{is_alias, geometries_allowed, sync_of}
 use Rattle.lxt_format.specs.Judge.{fault_from, clean_from, chains_refusal, changes_apart, file_refusal, all_clean}
 use Rattle.lxt_format.specs.Walk.{sort}

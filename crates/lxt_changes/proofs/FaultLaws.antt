@@ -14,7 +14,7 @@ use Rattle.lxt_format.specs.Limits.{widest_facility}
 use Rattle.lxt_format.specs.Basics.{◌unless◌, ◌or_else◌}
 use Rattle.lxt_format.specs.Bytes.{byte_at, to_zero}
 use Rattle.lxt_format.specs.BasicsLaws.{neither, kept, stops, and_both}
-use Rattle.lxt_format.specs.ChangesLaws.{previous_lt, faults_none, faults_next, faults_here, clean_none, clean_next, sound}
+use Rattle.lxt_format.proofs.ChangesLaws.{previous_lt, faults_none, faults_next, faults_here, clean_none, clean_next, sound}
 use Rattle.lxt_format.specs.BytesLaws.{at_zero, zero_bounds}
 use Rattle.lxt_format.specs.Changes.{Signal, signal, command_of, data_at, previous_of, command_allowed, symbol_size, packed_size, codes_allowed, padding_clean, data_size, data_allowed, clean_at, change_end, previous_allowed, fault_at, chain_fault, chain_clean}
 use Rattle.lxt_format.specs.declared.Kind.{Kind}

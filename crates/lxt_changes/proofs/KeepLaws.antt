@@ -14,7 +14,7 @@ use Rattle.lxt_format.specs.Limits.{widest_facility}
 use Rattle.lxt_format.specs.BasicsLaws.{on_test, and_both, both_and, or_either, range_upto, range_done}
 use Rattle.lxt_format.specs.Bytes.{byte_at, to_zero}
 use Rattle.lxt_format.specs.Changes.{signal, command_of, data_at, command_allowed, symbol_size, packed_size, codes_allowed, unused_bits, padding_clean, previous_allowed, data_size, data_allowed, change_end, fault_at, clean_at}
-use Rattle.lxt_format.specs.ChangesLaws.{sound}
+use Rattle.lxt_format.proofs.ChangesLaws.{sound}
 use Rattle.lxt_format.specs.declared.Kind.{Kind}
 use Rattle.lxt_format.specs.declared.Kind.TheVariants.{Bits, Integer, Real, Text}
 use Rattle.lxt_format.specs.Basics.{all}

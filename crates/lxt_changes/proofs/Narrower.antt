@@ -14,7 +14,8 @@ use borrow.Author.Tests.{le-leb, lt-ltb}
 use Rattle.lxt_format.specs.BasicsLaws.{and_both, both_and, range_all, all_range}
 use Rattle.lxt_format.specs.Bytes.{byte_at}
 use Rattle.lxt_format.specs.Changes.{Signal, signal, command_of, data_at, symbol_size, packed_size, codes_allowed, data_size, data_allowed, change_end, fault_at}
-use Rattle.lxt_format.specs.ChangesLaws.{Sound, sound}
+use Rattle.lxt_format.specs.Changes.{Sound}
+use Rattle.lxt_format.proofs.ChangesLaws.{sound}
 use Rattle.lxt_format.specs.declared.Kind.TheVariants.{Bits}
 use Rattle.lxt_changes.specs.Windows.{good_byte, all_good}
 use Rattle.lxt_changes.proofs.CodeLaws.{codes_none, codes_small, codes_even, codes_odd}

@@ -10,7 +10,7 @@ use native.Mathlib.Omega.{arith}
 use native.Mathlib.Nat.{mod-one}
 use Rattle.lxt_format.specs.Bytes.{byte_at}
 use Rattle.lxt_format.specs.Changes.{signal, command_of, data_at, symbol_size, packed_size, unused_bits, padding_clean, clean_at, data_size, change_end}
-use Rattle.lxt_format.specs.ChangesLaws.{Sound}
+use Rattle.lxt_format.specs.Changes.{Sound}
 use Rattle.lxt_format.specs.declared.Kind.{Kind}
 use Rattle.lxt_format.specs.declared.Kind.TheVariants.{Bits, Integer, Real, Text}
 use Rattle.lxt_changes.specs.Faults.{symbolic}

@@ -8,7 +8,7 @@ use lib.IntN.{ℤ}
 use native.Mathlib.Omega.{arith}
 use borrow.Author.Tests.{ne_eqb}
 use Rattle.lxt_format.specs.BasicsLaws.{on_zero}
-use Rattle.lxt_format.specs.JudgeLaws.{accepted, root_sound}
+use Rattle.lxt_format.proofs.JudgeLaws.{accepted, root_sound}
 use Rattle.lxt_values.proofs.SoundChains.{chain_readable}
 use Rattle.lxt_format.specs.Limits.{widest_facility}
 use Rattle.lxt_format.specs.Sections.{facility_count, initial_of}

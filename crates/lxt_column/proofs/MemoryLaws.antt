@@ -11,7 +11,7 @@ use borrow.Author.Tests.{lt-ltb, le-ltb}
 use Rattle.lxt_format.specs.BasicsLaws.{on_zero}
 use Rattle.lxt_format.specs.Geometry.{sync_of}
 use Rattle.lxt_format.specs.Changes.{previous_of, chain_of}
-use Rattle.lxt_format.specs.ChangesLaws.{previous_lt, chain_none, chain_more}
+use Rattle.lxt_format.proofs.ChangesLaws.{previous_lt, chain_none, chain_more}
 use Rattle.lxt_values.specs.Times.{first_below, visited_to}
 use Rattle.lxt_column.specs.Listing.{unknown, Forgotten, Remembered}
 

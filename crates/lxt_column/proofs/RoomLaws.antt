@@ -9,7 +9,7 @@ use Rattle.lxt_format.specs.Geometry.{root_of, facts_of}
 use Rattle.lxt_format.specs.Values.{content_at}
 use Rattle.lxt_format.specs.Questions.{facility_refusal, written, widths_of, column_bits}
 use Rattle.lxt_format.specs.ValueColumn.{ExactRoom}
-use Rattle.lxt_format.specs.ValueColumnLaws.{column_fine, number_fine}
+use Rattle.lxt_format.proofs.ValueColumnLaws.{column_fine, number_fine}
 use Rattle.lxt_tables.specs.Stage.{tables_of}
 use Rattle.lxt_reader.proofs.ValueWays.{below_of}
 use Rattle.lxt_column.proofs.ItemLaws.{written_width}

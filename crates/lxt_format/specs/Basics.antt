@@ -1,12 +1,8 @@
 -- What the definitions are written with: a choice, answers and refusals, and lists of numbers.
-use Rattle.std.specs.Prelude.{ℕ, zero, suc, ◌+◌, Bool, true, false, ◌&&◌, ◌||◌, List, [], ◌∷◌, ◌++◌, eqb}
+use Rattle.std.specs.Prelude.{ℕ, zero, suc, ◌+◌, Bool, true, false, ◌&&◌, ◌||◌, List, [], ◌∷◌, ◌++◌, eqb, if◌then◌else◌}
 
-infix 1 if◌then◌else◌
 infixr 2 ◌or_else◌
 infix 3 ◌unless◌
-abbrev pub if◌then◌else◌ {ℓ} : {X : Type ℓ} → Bool → X → X → X
-if true then x else y = x
-if false then x else y = y
 
 -- ---- refusals: a number, 0 where nothing is refused
 

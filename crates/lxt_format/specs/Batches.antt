@@ -1,8 +1,8 @@
 -- Many facilities, or many changes with their times and values, in one call: questions of our own, so that a whole trace is read in few calls. Each judges the
 -- file, as every question does, once for all that it answers.
-use Rattle.std.specs.Prelude.{ℕ, suc, ◌+◌, ◌-◌, min, Bool, ◌&&◌, List, [], ◌∷◌, map, length, leb, eqb}
+use Rattle.std.specs.Prelude.{ℕ, suc, ◌+◌, ◌-◌, min, Bool, ◌&&◌, List, [], ◌∷◌, map, length, leb, eqb, if◌then◌else◌}
 use Rattle.lxt_format.specs.Limits.{longest_name, widest_facility}
-use Rattle.lxt_format.specs.Basics.{if◌then◌else◌, ◌unless◌, ◌or_else◌, Answer, answer, lent_after, range, joined}
+use Rattle.lxt_format.specs.Basics.{◌unless◌, ◌or_else◌, Answer, answer, lent_after, range, joined}
 use Rattle.lxt_format.specs.Bytes.{unsigned}
 use Rattle.lxt_format.specs.Columns.{onto}
 use Rattle.lxt_format.specs.Sections.{facility_count}

@@ -1,6 +1,5 @@
-use Rattle.lxt_format.specs.Basics.{if◌then◌else◌}
 -- Numbers in a file. A file is a list of bytes; past its end a byte counts as 0, so that every definition is total.
-use Rattle.std.specs.Prelude.{ℕ, zero, suc, ◌+◌, ◌*◌, ◌-◌, ◌/◌, ◌%◌, ◌^◌, List, [], ◌∷◌, get_or, ℤ, pos, negsuc, ltb, eqb}
+use Rattle.std.specs.Prelude.{ℕ, zero, suc, ◌+◌, ◌*◌, ◌-◌, ◌/◌, ◌%◌, ◌^◌, List, [], ◌∷◌, get_or, ℤ, pos, negsuc, ltb, eqb, if◌then◌else◌}
 
 abbrev pub byte_at : List ℕ → ℕ → ℕ
 byte_at s o = get_or s o 0

@@ -1,7 +1,7 @@
 -- Paper 01, "One change and its chain": a change, its fault (15, 16), and chains. Paper 02, Ask 6: its padding.
-use Rattle.std.specs.Prelude.{ℕ, zero, suc, ◌+◌, ◌*◌, ◌-◌, ◌/◌, ◌%◌, ◌^◌, Bool, true, ◌&&◌, ◌||◌, List, [], ◌∷◌, map, take, ltb, leb, eqb}
+use Rattle.std.specs.Prelude.{ℕ, zero, suc, ◌+◌, ◌*◌, ◌-◌, ◌/◌, ◌%◌, ◌^◌, ◌≤◌, ◌<◌, ◌≡◌, Bool, true, ◌&&◌, ◌||◌, List, [], ◌∷◌, map, take, ltb, leb, eqb, if◌then◌else◌}
 use Rattle.std.proofs.Math.Seq.{slice}
-use Rattle.lxt_format.specs.Basics.{if◌then◌else◌, ◌unless◌, ◌or_else◌, all, joined, first_fault}
+use Rattle.lxt_format.specs.Basics.{◌unless◌, ◌or_else◌, all, joined, first_fault}
 use Rattle.lxt_format.specs.Bytes.{byte_at, number_at, to_zero}
 use Rattle.lxt_format.specs.declared.Kind.{Kind}
 use Rattle.lxt_format.specs.declared.Kind.TheVariants.{Bits, Integer, Real, Text}
@@ -148,3 +148,14 @@ chain_fault s g o = first_fault (map (fault_at s g) (chain_of s o))
 -- whether the padding of every change of the chain from o on was clean
 unfoldable pub chain_clean : List ℕ → Signal → ℕ → Bool
 chain_clean s g o = all (clean_at s g) (chain_of s o)
+
+module _ (s : List ℕ) (g : Signal) where
+  -- what a change without a fault keeps
+  pub record Sound (o : ℕ) : Type 0 where
+    pub starts : g.from ≤ o
+    pub before : o < g.end
+    pub top : byte_at s o < 0x40
+    pub command : command_allowed g.kind (command_of s o) ≡ true
+    pub ends : change_end s g o ≤ g.end
+    pub data' : data_allowed s g o ≡ true
+    pub previous : previous_allowed s g.from o ≡ true

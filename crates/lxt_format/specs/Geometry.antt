@@ -1,7 +1,7 @@
 -- Paper 01, "Names, facilities, times": geometry, aliases and roots, refusals 11 and 12.
-use Rattle.std.specs.Prelude.{ℕ, zero, suc, ◌+◌, ◌*◌, ◌/◌, ◌%◌, Bool, not, ◌&&◌, ◌||◌, List, pos, nat_abs, ◌-ℤ◌, ltb, leb, eqb}
+use Rattle.std.specs.Prelude.{ℕ, zero, suc, ◌+◌, ◌*◌, ◌/◌, ◌%◌, Bool, not, ◌&&◌, ◌||◌, List, pos, nat_abs, ◌-ℤ◌, ltb, leb, eqb, if◌then◌else◌}
 use Rattle.lxt_format.specs.Limits.{widest_facility}
-use Rattle.lxt_format.specs.Basics.{if◌then◌else◌, range, all, select}
+use Rattle.lxt_format.specs.Basics.{range, all, select}
 use Rattle.lxt_format.specs.Bytes.{u32_at, signed}
 use Rattle.lxt_format.specs.Sections.{section_of, facility_count}
 use Rattle.lxt_format.specs.declared.Kind.{Kind}

@@ -1,9 +1,9 @@
 -- Paper 01, "What can be asked": each question's answer, and what everything lent holds afterwards.
 -- "Every call judges the file first, except carrying on: it does checks 1 to 14, then 20 to 21."
-use Rattle.std.specs.Prelude.{ℕ, ◌+◌, ◌*◌, ◌-◌, Bool, ◌&&◌, List, [], ◌∷◌, ◌++◌, map, length, drop, replicate, ℤ, pos, ltb, leb, eqb}
+use Rattle.std.specs.Prelude.{ℕ, ◌+◌, ◌*◌, ◌-◌, Bool, ◌&&◌, List, [], ◌∷◌, ◌++◌, map, length, drop, replicate, ℤ, pos, ltb, leb, eqb, if◌then◌else◌}
 use Rattle.std.proofs.Math.Seq.{slice}
 use Rattle.lxt_format.specs.Limits.{longest_name, longest_column}
-use Rattle.lxt_format.specs.Basics.{if◌then◌else◌, ◌unless◌, ◌or_else◌, Answer, given, refused, answer, lent_after, any, joined, total, first_fault}
+use Rattle.lxt_format.specs.Basics.{◌unless◌, ◌or_else◌, Answer, given, refused, answer, lent_after, any, joined, total, first_fault}
 use Rattle.lxt_format.specs.Columns.{onto}
 use Rattle.lxt_format.specs.Sections.{facility_count}
 use Rattle.lxt_format.specs.Names.{name_of}

@@ -1,8 +1,8 @@
 -- Paper 01, "Names, facilities, times": the byte order of reals, refusal 14.
-use Rattle.std.specs.Prelude.{ℕ, suc, ◌+◌, ◌*◌, Bool, true, false, not, ◌&&◌, ◌||◌, List, [], ◌∷◌, map, take, drop, ltb, eqb, Float}
+use Rattle.std.specs.Prelude.{ℕ, suc, ◌+◌, ◌*◌, Bool, true, false, not, ◌&&◌, ◌||◌, List, [], ◌∷◌, map, take, drop, ltb, eqb, Float, if◌then◌else◌}
 use Rattle.std.specs.Float.{binary64}
 use Rattle.std.specs.Float.Ieee.{of_bits}
-use Rattle.lxt_format.specs.Basics.{if◌then◌else◌, all, any}
+use Rattle.lxt_format.specs.Basics.{all, any}
 use Rattle.lxt_format.specs.Bytes.{byte_at}
 use Rattle.lxt_format.specs.Sections.{section_of, present, inside, end_of}
 use Rattle.lxt_format.specs.Geometry.{roots_of, own_facts}

@@ -1,7 +1,7 @@
 -- The rule of 13 before paper 02, Ask 2, and what Ask 2 promises: "A trace accepted before keeps all its answers."
-use Rattle.std.specs.Prelude.{ℕ, ◌≤◌, ◌<◌, ◌≡◌, Bool, true, ◌&&◌, List, get_or, drop, ℤ, pos, leb, eqb}
+use Rattle.std.specs.Prelude.{ℕ, ◌≤◌, ◌<◌, ◌≡◌, Bool, true, ◌&&◌, List, get_or, drop, ℤ, pos, leb, eqb, if◌then◌else◌}
 use Rattle.std.specs.Int.Signed.{le_z}
-use Rattle.lxt_format.specs.Basics.{if◌then◌else◌, ◌unless◌, ◌or_else◌, all}
+use Rattle.lxt_format.specs.Basics.{◌unless◌, ◌or_else◌, all}
 use Rattle.lxt_format.specs.Sections.{time_count, times_once, sections_present, bodies_inside}
 use Rattle.lxt_format.specs.Times.{position_deltas, time_deltas, positions_of, times_of, table_allowed, times_allowed, time_of}
 use Rattle.lxt_format.specs.Judge.{tables_refusal_by, tables_refusal, chains_refusal, changes_apart, file_refusal}

@@ -1,7 +1,7 @@
 -- Paper 01, "Frame and section list": refusals 1 to 9.
-use Rattle.std.specs.Prelude.{ℕ, zero, suc, ◌+◌, ◌*◌, ◌-◌, Bool, true, false, not, ◌&&◌, ◌||◌, List, [], ◌∷◌, length, ℤ, pos, negsuc, ltb, leb, eqb}
+use Rattle.std.specs.Prelude.{ℕ, zero, suc, ◌+◌, ◌*◌, ◌-◌, Bool, true, false, not, ◌&&◌, ◌||◌, List, [], ◌∷◌, length, ℤ, pos, negsuc, ltb, leb, eqb, if◌then◌else◌}
 use Rattle.lxt_format.specs.Limits.{shortest_file, longest_file, most_facilities}
-use Rattle.lxt_format.specs.Basics.{if◌then◌else◌, range, all, any}
+use Rattle.lxt_format.specs.Basics.{range, all, any}
 use Rattle.lxt_format.specs.Bytes.{byte_at, u16_at, u32_at, signed}
 
 -- ---- the frame

@@ -1,6 +1,6 @@
 -- The times of tag 06 before paper 02, Ask 1, as numbers of 32 bits and their sums, and the claim that a file with them alone keeps its answers.
-use Rattle.std.specs.Prelude.{ℕ, ◌+◌, ◌*◌, max, ◌≡◌, Bool, false, not, ◌&&◌, ◌||◌, List, [], ◌∷◌, get_or, pos, ltb, leb, eqb}
-use Rattle.lxt_format.specs.Basics.{if◌then◌else◌, ◌unless◌, ◌or_else◌, range, all, any}
+use Rattle.std.specs.Prelude.{ℕ, ◌+◌, ◌*◌, max, ◌≡◌, Bool, false, not, ◌&&◌, ◌||◌, List, [], ◌∷◌, get_or, pos, ltb, leb, eqb, if◌then◌else◌}
+use Rattle.lxt_format.specs.Basics.{◌unless◌, ◌or_else◌, range, all, any}
 use Rattle.lxt_format.specs.Bytes.{u32_at, numbers_at}
 use Rattle.lxt_format.specs.BytesLaws.{AreBytes}
 use Rattle.lxt_format.specs.Sections.{section_of, present, end_of, changes_from, facility_count, inside}

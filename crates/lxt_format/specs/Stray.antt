@@ -1,8 +1,8 @@
 -- Stray bytes: those of an accepted file that belong to no change and to no section. Every rule of paper 01 allows them; they are the sign of a file that
 -- was saved over another.
-use Rattle.std.specs.Prelude.{ℕ, ◌+◌, ◌*◌, ◌-◌, Bool, not, ◌&&◌, ◌||◌, List, [], ◌∷◌, length, ltb, leb, eqb}
+use Rattle.std.specs.Prelude.{ℕ, ◌+◌, ◌*◌, ◌-◌, Bool, not, ◌&&◌, ◌||◌, List, [], ◌∷◌, length, ltb, leb, eqb, if◌then◌else◌}
 use Rattle.std.proofs.Math.Seq.{slice}
-use Rattle.lxt_format.specs.Basics.{if◌then◌else◌, Answer, answer, any, select, range}
+use Rattle.lxt_format.specs.Basics.{Answer, answer, any, select, range}
 use Rattle.lxt_format.specs.Bytes.{u32_at}
 use Rattle.lxt_format.specs.Sections.{section_of, present, end_of, facility_count, body_size, inside}
 use Rattle.lxt_format.specs.Names.{names_size}

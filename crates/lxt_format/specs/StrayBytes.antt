@@ -1,6 +1,6 @@
 -- Stray bytes, counted: bytes at each kind of place, sections that are skipped, and what is no stray byte.
-use Rattle.std.specs.Prelude.{ℕ, ◌+◌, ◌-◌, refl, List, [], ◌∷◌, ◌++◌, map, length, set, replicate, eqb}
-use Rattle.lxt_format.specs.Basics.{if◌then◌else◌, given, refused, range}
+use Rattle.std.specs.Prelude.{ℕ, ◌+◌, ◌-◌, refl, List, [], ◌∷◌, ◌++◌, map, length, set, replicate, eqb, if◌then◌else◌}
+use Rattle.lxt_format.specs.Basics.{given, refused, range}
 use Rattle.lxt_format.specs.Stray.{stray_asked}
 use Rattle.lxt_format.specs.Everything.{everything}
 use Rattle.lxt_format.specs.Traces.{spelled, with32, trace, name_memory, last_byte, facilities_named, mixed}

@@ -1,8 +1,8 @@
 -- Paper 01, "Names, facilities, times", and paper 02, Ask 1: the time table, refusal 13. The tables of tags 06 and 09 are one, with times of 4 or 8 bytes.
-use Rattle.std.specs.Prelude.{ℕ, ◌+◌, ◌*◌, Bool, not, ◌&&◌, List, [], ◌∷◌, map, get_or, drop, ℤ, pos, ◌+ℤ◌, ltb, leb, eqb}
+use Rattle.std.specs.Prelude.{ℕ, ◌+◌, ◌*◌, Bool, not, ◌&&◌, List, [], ◌∷◌, map, get_or, drop, ℤ, pos, ◌+ℤ◌, ltb, leb, eqb, if◌then◌else◌}
 use Rattle.std.specs.Int.Signed.{le_z, non_neg}
 use Rattle.lxt_format.specs.Limits.{least_time, greatest_time}
-use Rattle.lxt_format.specs.Basics.{if◌then◌else◌, all, any}
+use Rattle.lxt_format.specs.Basics.{all, any}
 use Rattle.lxt_format.specs.Bytes.{number_at, numbers_at, signed}
 use Rattle.lxt_format.specs.Sections.{end_of, wide_times, times_at, time_bytes, time_count}
 use Rattle.lxt_format.specs.Geometry.{roots_of, sync_of}

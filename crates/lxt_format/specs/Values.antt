@@ -1,8 +1,8 @@
 -- Paper 01, "One change and its chain": the values of changes.
-use Rattle.std.specs.Prelude.{ℕ, ◌+◌, ◌-◌, max, List, [], ◌∷◌, map, length, get_or, replicate, ℤ, eqb, Float}
+use Rattle.std.specs.Prelude.{ℕ, ◌+◌, ◌-◌, max, List, [], ◌∷◌, map, length, get_or, replicate, ℤ, eqb, Float, if◌then◌else◌}
 use Rattle.std.proofs.Math.Seq.{slice}
 use Rattle.std.specs.Int.Signed.{le_z, lt_z}
-use Rattle.lxt_format.specs.Basics.{if◌then◌else◌, select}
+use Rattle.lxt_format.specs.Basics.{select}
 use Rattle.lxt_format.specs.Bytes.{to_zero}
 use Rattle.lxt_format.specs.Sections.{end_of, initial_of}
 use Rattle.lxt_format.specs.Geometry.{own_facts, sync_of}

@@ -1,4 +1,5 @@
 -- A law for each way out of the functions that put the parts of a written file into the lent buffer.
+use Rattle.std.specs.Prelude.{if◌then◌else◌}
 use Prim.Native.Nat.{ℕ, suc, ◌+◌, ◌*◌, ◌-◌, ◌≤◌, ◌<◌}
 use native.Mathlib.Nat.{add-zero}
 use native.Mathlib.Numerals.{add-one}
@@ -15,7 +16,7 @@ use borrow.Author.Tests.{ltb-true, leb-true, leb-false, lt-ltb, le-leb, lt-leb}
 use mir.Syntax.{w8}
 use mir.Val.{SFits, of_z, to_z}
 use mir.ValLaws.{to_z-of_z}
-use Rattle.lxt_format.specs.Basics.{if◌then◌else◌, joined}
+use Rattle.lxt_format.specs.Basics.{joined}
 use Rattle.lxt_format.specs.BasicsLaws.{on_test}
 use Rattle.lxt_format.specs.Buffers.{placed, length_placed, placed_none, placed_more}
 use Rattle.lxt_format.specs.Reals.{test_pattern}

@@ -1,4 +1,5 @@
 -- The parts that stand at their places are the whole file.
+use Rattle.std.specs.Prelude.{if◌then◌else◌}
 use Prim.Native.Nat.{ℕ, suc, ◌+◌, ◌*◌, ◌≤◌, ◌<◌}
 use native.Mathlib.Omega.{arith}
 use mathlib.Core.Path.{◌≡◌, refl, ◌∙◌}
@@ -7,7 +8,7 @@ use mathlib.Core.List.{List, [], ◌∷◌, ◌++◌, map, append_assoc}
 use lib.ListN.{length, drop, length-append, length-map}
 use lib.IntN.{ℤ}
 use borrow.Author.Tests.{ne_eqb}
-use Rattle.lxt_format.specs.Basics.{if◌then◌else◌, range, joined}
+use Rattle.lxt_format.specs.Basics.{range, joined}
 use Rattle.lxt_format.specs.BasicsLaws.{on_test}
 use Rattle.lxt_format.specs.Columns.{onto}
 use Rattle.lxt_format.specs.Sections.{value_in}

@@ -1,6 +1,5 @@
 -- Where the parts of a written file stand.
-use Rattle.std.specs.Prelude.{ℕ, suc, ◌+◌, ◌*◌, ◌≤◌, ◌≡◌, Bool, List, [], ◌∷◌, ◌++◌, map, length, ℤ}
-use Rattle.lxt_format.specs.Basics.{if◌then◌else◌}
+use Rattle.std.specs.Prelude.{ℕ, suc, ◌+◌, ◌*◌, ◌≤◌, ◌≡◌, Bool, List, [], ◌∷◌, ◌++◌, map, length, ℤ, if◌then◌else◌}
 use Rattle.lxt_format.specs.Names.{memory_of}
 use Rattle.lxt_format.specs.Reals.{test_pattern}
 use Rattle.lxt_written.specs.Input.{Trace}

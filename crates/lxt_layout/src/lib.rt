@@ -2,8 +2,7 @@
 // the names and of the times, the sections of one value, END, the section list and the last byte.
 #![tactic(auto)]
 
-ghost use Rattle.std.specs.Prelude.{◌≡◌, [], ◌∷◌, ◌+◌, ◌*◌, ◌≤◌, ◌<◌, length};
-ghost use Rattle.lxt_format.specs.Basics.{if◌then◌else◌};
+ghost use Rattle.std.specs.Prelude.{◌≡◌, [], ◌∷◌, ◌+◌, ◌*◌, ◌≤◌, ◌<◌, length, if◌then◌else◌};
 ghost use Rattle.lxt_format.specs.Buffers.{placed};
 ghost use Rattle.lxt_format.specs.Reals.{test_pattern};
 ghost use Rattle.lxt_format.specs.Sections.{timescale_allowed};

@@ -1,4 +1,5 @@
 -- Laws of the bytes of one change: its command byte, its delta and its data.
+use Rattle.std.specs.Prelude.{if◌then◌else◌}
 use Prim.Native.Nat.{ℕ, ◌+◌, ◌*◌, ◌-◌, ◌/◌, ◌%◌, ◌^◌, ◌≤◌, ◌<◌}
 use native.Mathlib.Omega.{arith}
 use native.Mathlib.Nat.{add-zero}
@@ -10,7 +11,7 @@ use lib.ListN.{length, get_or, take, set, length-append}
 use lib.Seq.{slice, length-slice, get_or-take, get_or-drop, set-get_or, get_or-set_other}
 use lib.Dec.{ltb, eqb}
 use borrow.Author.Tests.{ltb-true, eqb-true, eq-eqb, ne_eqb}
-use Rattle.lxt_format.specs.Basics.{if◌then◌else◌, all}
+use Rattle.lxt_format.specs.Basics.{all}
 use Rattle.lxt_format.specs.BasicsLaws.{and_both, both_and, all_at}
 use Rattle.lxt_format.specs.Buffers.{placed, length_placed, placed_none, placed_more}
 use Rattle.lxt_format.specs.Changes.{symbol_size, packed_size}

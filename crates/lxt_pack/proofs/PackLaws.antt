@@ -1,4 +1,5 @@
 -- Laws of symbols that are packed into bytes.
+use Rattle.std.specs.Prelude.{if◌then◌else◌}
 use Prim.Native.Nat.{ℕ, zero, suc, ◌+◌, ◌*◌, ◌-◌, ◌/◌, ◌%◌, ◌^◌, ◌≤◌, ◌<◌}
 use native.Mathlib.Nat.{add-zero, add-mul, mul_assoc, mul_comm, mul-suc, mul-zero, mul-le-mul, le_refl}
 use native.Mathlib.Omega.{arith}
@@ -13,7 +14,7 @@ use lib.Seq.{slice, slice-cons, slice_empty, drop-drop}
 use Rattle.lxt_format.specs.Buffers.{placed, placed_none, stored_one, placed_next}
 use lib.Dec.{leb, ltb, eqb, lit<, lit≤}
 use borrow.Author.Tests.{eqb-true, leb-true, ltb-true}
-use Rattle.lxt_format.specs.Basics.{if◌then◌else◌, range, all}
+use Rattle.lxt_format.specs.Basics.{range, all}
 use Rattle.lxt_format.specs.BasicsLaws.{all_range, and_both, or_either}
 use Rattle.lxt_format.specs.Reals.{place_of}
 use Rattle.lxt_format.specs.Changes.{packed_size}

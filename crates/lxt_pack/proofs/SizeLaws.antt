@@ -1,4 +1,5 @@
 -- Laws of how many bytes a change takes.
+use Rattle.std.specs.Prelude.{if◌then◌else◌}
 use Prim.Native.Nat.{ℕ, zero, suc, ◌+◌, ◌*◌, ◌-◌, ◌/◌, ◌≤◌, ◌<◌}
 use native.Mathlib.Omega.{arith}
 use native.Mathlib.Nat.{mul-le-mul}
@@ -10,7 +11,7 @@ use lib.Seq.{slice, slice-cons, slice_empty, length-slice}
 use lib.Dec.{ltb, eqb}
 use native.Mathlib.Decide.{dec_le}
 use borrow.Author.Tests.{lt-ltb, le-ltb, eq-eqb, ne_eqb}
-use Rattle.lxt_format.specs.Basics.{if◌then◌else◌, all, any}
+use Rattle.lxt_format.specs.Basics.{all, any}
 use Rattle.lxt_format.specs.BasicsLaws.{on_test, both_and, and_both}
 use Rattle.lxt_format.specs.Changes.{symbol_size, packed_size}
 use Rattle.lxt_format.specs.declared.Kind.{Kind}

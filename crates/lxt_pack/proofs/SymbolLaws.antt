@@ -1,4 +1,5 @@
 -- Laws of the symbols of a value: what is seen of them, and the command that follows from it.
+use Rattle.std.specs.Prelude.{if◌then◌else◌}
 use Prim.Native.Nat.{ℕ, zero, suc, ◌+◌, ◌≤◌, ◌<◌}
 use native.Mathlib.Omega.{arith}
 use mathlib.Core.Path.{◌≡◌, refl, sym, ap, ◌∙◌}
@@ -9,7 +10,7 @@ use lib.Seq.{slice, slice-cons, slice_empty, length-slice}
 use lib.Dec.{ltb, eqb}
 use native.Mathlib.Decide.{ℕ_discrete, dec_le}
 use borrow.Author.Tests.{lt-ltb, le-ltb, eq-eqb, ne_eqb, eqb-true, ltb-true}
-use Rattle.lxt_format.specs.Basics.{if◌then◌else◌, all, any}
+use Rattle.lxt_format.specs.Basics.{all, any}
 use Rattle.lxt_format.specs.BasicsLaws.{on_test, and_both, both_and}
 use Rattle.lxt_format.specs.Reals.{place_of}
 use Rattle.lxt_format.specs.Values.{symbols}

@@ -1,7 +1,7 @@
 -- What the functions over one change answer and ask.
-use Rattle.std.specs.Prelude.{ℕ, ◌+◌, ◌*◌, ◌-◌, ◌≤◌, ◌<◌, ◌≡◌, Bool, true, false, List, ◌∷◌, length}
+use Rattle.std.specs.Prelude.{ℕ, ◌+◌, ◌*◌, ◌-◌, ◌≤◌, ◌<◌, ◌≡◌, Bool, true, false, List, ◌∷◌, length, if◌then◌else◌}
 use Rattle.std.proofs.Math.Seq.{slice}
-use Rattle.lxt_format.specs.Basics.{if◌then◌else◌, all}
+use Rattle.lxt_format.specs.Basics.{all}
 use Rattle.lxt_format.specs.Buffers.{placed}
 use Rattle.lxt_format.specs.Changes.{symbol_size, packed_size}
 use Rattle.lxt_format.specs.declared.Kind.{Kind}

@@ -1,7 +1,6 @@
 // One change: how many bytes it takes, and its bytes.
-ghost use Rattle.std.specs.Prelude.{◌≡◌, ◌+◌, ◌*◌, ◌-◌, ◌≤◌, ◌<◌, ltb};
+ghost use Rattle.std.specs.Prelude.{◌≡◌, ◌+◌, ◌*◌, ◌-◌, ◌≤◌, ◌<◌, ltb, if◌then◌else◌};
 ghost use Rattle.std.proofs.Math.Seq.{slice};
-ghost use Rattle.lxt_format.specs.Basics.{if◌then◌else◌};
 ghost use Rattle.lxt_format.specs.Buffers.{placed};
 ghost use Rattle.lxt_format.specs.Changes.{symbol_size, packed_size};
 ghost use Rattle.lxt_format.specs.Reals.{is_real};

@@ -1,7 +1,7 @@
 // The symbols of a value: their codes, the command that holds them, and their packing.
-ghost use Rattle.std.specs.Prelude.{◌≡◌, true, map, ◌+◌, ◌-◌, ◌≤◌, ◌<◌, ◌/◌, ◌^◌, length, get_or, ltb};
+ghost use Rattle.std.specs.Prelude.{◌≡◌, true, map, ◌+◌, ◌-◌, ◌≤◌, ◌<◌, ◌/◌, ◌^◌, length, get_or, ltb, if◌then◌else◌};
 ghost use Rattle.std.proofs.Math.Seq.{slice};
-ghost use Rattle.lxt_format.specs.Basics.{if◌then◌else◌, all};
+ghost use Rattle.lxt_format.specs.Basics.{all};
 ghost use Rattle.lxt_format.specs.Buffers.{placed};
 ghost use Rattle.lxt_format.specs.Changes.{packed_size};
 ghost use Rattle.lxt_format.specs.UnpackLaws.{Size};

@@ -16,7 +16,7 @@ use Rattle.lxt_format.specs.BasicsLaws.{neither, kept, next_check, this_check}
 use Rattle.lxt_format.specs.Columns.{onto}
 use Rattle.lxt_format.specs.Limits.{longest_printed, most_facilities}
 use Rattle.lxt_format.specs.Sections.{facility_count}
-use Rattle.lxt_format.specs.WalkLaws.{all_asked_lem}
+use Rattle.lxt_format.proofs.WalkLaws.{all_asked_lem}
 use Rattle.lxt_format.specs.Judge.{file_refusal}
 use Rattle.lxt_tables.specs.Stage.{tables_of}
 use Rattle.lxt_tables.specs.declared.Tables.{Tables}

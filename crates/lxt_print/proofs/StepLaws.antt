@@ -1,4 +1,5 @@
 -- Laws of the changes one after the other.
+use Rattle.std.specs.Prelude.{if◌then◌else◌}
 use Prim.Native.Nat.{ℕ, ◌+◌, ◌≤◌, ◌<◌}
 use native.Mathlib.Omega.{arith}
 use native.Mathlib.Decide.{dec_le, ℕ_discrete}
@@ -9,16 +10,16 @@ use lib.ListN.{length, get_or, drop, length-append}
 use lib.Seq.{get_or-set_same, get_or-set_other}
 use lib.Dec.{leb, eqb}
 use borrow.Author.Tests.{leb-true, eqb-true, eq-eqb, ne_eqb, not-true, not-false}
-use Rattle.lxt_format.specs.Basics.{if◌then◌else◌, any, joined}
+use Rattle.lxt_format.specs.Basics.{any, joined}
 use Rattle.lxt_format.specs.BasicsLaws.{and_both, or_none, on_zero}
 use Rattle.lxt_format.specs.Columns.{onto}
 use Rattle.lxt_format.specs.Sections.{time_count, end_of}
 use Rattle.lxt_format.specs.Geometry.{roots_of, sync_of}
 use Rattle.lxt_format.specs.Times.{table_allowed, times_allowed, time_of}
 use Rattle.lxt_format.specs.Changes.{previous_of}
-use Rattle.lxt_format.specs.ChangesLaws.{previous_lt, chain_none}
+use Rattle.lxt_format.proofs.ChangesLaws.{previous_lt, chain_none}
 use Rattle.lxt_format.specs.Judge.{changes_of, all_changes, end_at}
-use Rattle.lxt_format.specs.JudgeLaws.{accepted}
+use Rattle.lxt_format.proofs.JudgeLaws.{accepted}
 use Rattle.lxt_format.specs.Values.{content_of}
 use Rattle.lxt_format.specs.Walk.{sort, top, high, step, handed_out, offsets_after}
 use Rattle.lxt_tables.specs.declared.Tables.{Tables}

@@ -1,4 +1,5 @@
 -- Laws of text that is put into a buffer, and of numbers as text.
+use Rattle.std.specs.Prelude.{if◌then◌else◌}
 use Prim.Native.Nat.{ℕ, zero, suc, ◌+◌, ◌*◌, ◌-◌, ◌/◌, ◌%◌, ◌≤◌, ◌<◌}
 use native.Mathlib.Omega.{arith}
 use native.Mathlib.Decide.{dec_le}
@@ -8,7 +9,7 @@ use lib.ListN.{length, get_or, set, take, length-append, length-set}
 use lib.Seq.{length-take-le, take_all, take-suc}
 use lib.Dec.{eqb}
 use borrow.Author.Tests.{lt-ltb, le-ltb, eq-eqb, ne_eqb}
-use Rattle.lxt_format.specs.Basics.{if◌then◌else◌, joined}
+use Rattle.lxt_format.specs.Basics.{joined}
 use Rattle.lxt_format.specs.Changes.{digits}
 use Rattle.lxt_print.specs.Lines.{decimal_within, decimal, hex_digit, hex_byte, hex_bytes}
 use Rattle.lxt_print.specs.Placing.{Put}

@@ -15,7 +15,8 @@ use Rattle.lxt_format.specs.Sections.{facility_count, end_of}
 use Rattle.lxt_format.specs.Bytes.{to_zero}
 use Rattle.lxt_format.specs.Geometry.{is_alias, own_facts, geometry_allowed}
 use Rattle.lxt_format.specs.Times.{time_of}
-use Rattle.lxt_format.specs.BiasedTimes.{biased, unbiased, unbiased_biased}
+use Rattle.lxt_format.specs.BiasedTimes.{biased, unbiased}
+use Rattle.lxt_format.proofs.BiasedTimesLaws.{unbiased_biased}
 use Rattle.lxt_format.specs.Changes.{digits, data_at, data_size, change_end}
 use Rattle.lxt_format.specs.Values.{Content, bits, real, text, not_driven, content_by, content_of}
 use Rattle.lxt_format.specs.Answers.{Shown, bits_of, real_of, text_of, nothing, shown, value_says}

@@ -1,6 +1,5 @@
 -- "For the trace below it prints four lines, exactly"; lines of refused files; and both sides of the longest file that is printed.
-use Rattle.std.specs.Prelude.{◌≡◌, refl, List, [], ◌∷◌, ◌++◌, length, set, eqb, ℕ}
-use Rattle.lxt_format.specs.Basics.{if◌then◌else◌}
+use Rattle.std.specs.Prelude.{◌≡◌, refl, List, [], ◌∷◌, ◌++◌, length, set, eqb, ℕ, if◌then◌else◌}
 use Rattle.lxt_format.specs.Changes.{digits}
 use Rattle.lxt_format.specs.Judge.{file_refusal}
 use Rattle.lxt_format.specs.Everything.{everything}

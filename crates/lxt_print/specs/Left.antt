@@ -1,8 +1,8 @@
 -- What is left to print, by the state that a call leaves to the next (`Printing` and `Rest` in src/printing.rt) and the memory lent with it:
 -- the name before the next one, the nodes of the tree of pending offsets, and the line that was put last.
-use Rattle.std.specs.Prelude.{ℕ, ◌+◌, ◌*◌, ◌-◌, ◌≤◌, ◌<◌, ◌≡◌, false, List, [], ◌++◌, length, take, drop}
+use Rattle.std.specs.Prelude.{ℕ, ◌+◌, ◌*◌, ◌-◌, ◌≤◌, ◌<◌, ◌≡◌, false, List, [], ◌++◌, length, take, drop, if◌then◌else◌}
 use Rattle.std.proofs.Math.Seq.{slice}
-use Rattle.lxt_format.specs.Basics.{if◌then◌else◌, range, joined}
+use Rattle.lxt_format.specs.Basics.{range, joined}
 use Rattle.lxt_format.specs.Sections.{facility_count}
 use Rattle.lxt_format.specs.declared.Pair.{Pair}
 use Rattle.lxt_print.specs.Lines.{facility_line, change_line, done_line, accepted_text}

@@ -1,7 +1,7 @@
 -- Paper 01, "A small program": the lines that it prints, as ASCII bytes. "Fields are joined by one space", and each line ends in one line feed.
-use Rattle.std.specs.Prelude.{ℕ, zero, suc, ◌+◌, ◌/◌, ◌%◌, List, [], ◌∷◌, ◌++◌, length, take, drop, ℤ, pos, negsuc, leb, ltb, eqb}
+use Rattle.std.specs.Prelude.{ℕ, zero, suc, ◌+◌, ◌/◌, ◌%◌, List, [], ◌∷◌, ◌++◌, length, take, drop, ℤ, pos, negsuc, leb, ltb, eqb, if◌then◌else◌}
 use Rattle.lxt_format.specs.Limits.{longest_printed}
-use Rattle.lxt_format.specs.Basics.{if◌then◌else◌, ◌unless◌, ◌or_else◌, range, joined}
+use Rattle.lxt_format.specs.Basics.{◌unless◌, ◌or_else◌, range, joined}
 use Rattle.lxt_format.specs.Sections.{facility_count}
 use Rattle.lxt_format.specs.Names.{name_of}
 use Rattle.lxt_format.specs.Geometry.{is_alias, root_of, own_facts}

@@ -1,6 +1,5 @@
 -- Text that is put into a buffer, and what putting a line asks.
-use Rattle.std.specs.Prelude.{ℕ, ◌+◌, ◌≤◌, ◌≡◌, List, ◌++◌, length, ℤ}
-use Rattle.lxt_format.specs.Basics.{if◌then◌else◌}
+use Rattle.std.specs.Prelude.{ℕ, ◌+◌, ◌≤◌, ◌≡◌, List, ◌++◌, length, ℤ, if◌then◌else◌}
 use Rattle.lxt_format.specs.Buffers.{placed}
 use Rattle.lxt_format.specs.Geometry.{is_alias, root_of, own_facts}
 use Rattle.lxt_format.specs.Judge.{file_refusal}

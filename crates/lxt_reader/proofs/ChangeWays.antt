@@ -11,15 +11,15 @@ use Rattle.lxt_format.specs.Basics.{given, refused, any}
 use Rattle.lxt_format.specs.BasicsLaws.{stops, answer_given, answer_refused}
 use Rattle.lxt_format.specs.Geometry.{root_of, sync_of, own_facts, facts_of}
 use Rattle.lxt_format.specs.Changes.{data_at, previous_of, change_end, chain_of, chain_fault}
-use Rattle.lxt_format.specs.ChangesLaws.{previous_lt, chain_none, chain_more}
+use Rattle.lxt_format.proofs.ChangesLaws.{previous_lt, chain_none, chain_more}
 use Rattle.lxt_format.specs.Judge.{signal_by, fault_from}
-use Rattle.lxt_format.specs.JudgeLaws.{accepted, root_sound}
+use Rattle.lxt_format.proofs.JudgeLaws.{accepted, root_sound}
 use Rattle.lxt_format.specs.Questions.{facility_refusal, change_refusal, chain_asked, before_asked}
 use Rattle.lxt_format.specs.declared.Facts.{Facts}
 use Rattle.lxt_tables.specs.Asked.{Sync}
 use Rattle.lxt_tables.proofs.TablesLaws.{Known, root_in, root_plain, tables_known}
 use Rattle.lxt_values.specs.Times.{Readable, change}
-use Rattle.lxt_format.specs.ValuesLaws.{change_sound}
+use Rattle.lxt_format.proofs.ValuesLaws.{change_sound}
 use Rattle.lxt_values.proofs.SoundChains.{chain_readable}
 use Rattle.lxt_reader.specs.Asking.{Answers}
 use Rattle.lxt_reader.specs.Changing.{Followed, Chained, Looked}

@@ -15,7 +15,7 @@ use Rattle.lxt_format.specs.Bytes.{byte_at, signed}
 use Rattle.lxt_format.specs.BasicsLaws.{on_test, and_both, answer_given, answer_refused}
 use Rattle.lxt_format.specs.Sections.{section_of, present, timescale_allowed, timescale_of}
 use Rattle.lxt_format.specs.Judge.{file_refusal, all_clean, summary_of, judge}
-use Rattle.lxt_format.specs.JudgeLaws.{accepted}
+use Rattle.lxt_format.proofs.JudgeLaws.{accepted}
 use Rattle.lxt_format.specs.Stray.{stray_bytes, stray_asked}
 use Rattle.lxt_chains.specs.Sweep.{Counts}
 use Rattle.lxt_chains.specs.declared.stray.Counted.{Counted}

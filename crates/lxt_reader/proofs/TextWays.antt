@@ -19,7 +19,7 @@ use Rattle.lxt_format.specs.Values.{TextSource, in_file, lent_text, other_kind, 
 use Rattle.lxt_format.specs.Answers.{text_says}
 use Rattle.lxt_format.specs.Questions.{facility_refusal, text_asked, part_by, text_part, place_by}
 use Rattle.lxt_format.specs.LentText.{zero_end}
-use Rattle.lxt_format.specs.LentTextLaws.{text_other, text_start, text_driven, text_inside, part_inside_lem}
+use Rattle.lxt_format.proofs.LentTextLaws.{text_other, text_start, text_driven, text_inside, part_inside_lem}
 use Rattle.lxt_format.specs.declared.Kind.{Kind}
 use Rattle.lxt_format.specs.declared.Kind.TheVariants.{Text}
 use Rattle.lxt_format.specs.declared.TextAnswer.{TextAnswer}

@@ -19,18 +19,18 @@ use Rattle.lxt_format.specs.Geometry.{root_of, facts_of}
 use Rattle.lxt_format.specs.Times.{time_of}
 use Rattle.lxt_format.specs.BiasedTimes.{bias}
 use Rattle.lxt_format.specs.Changes.{signal, chain_of, clean_at}
-use Rattle.lxt_format.specs.ChangesLaws.{Sound}
+use Rattle.lxt_format.specs.Changes.{Sound}
 use Rattle.lxt_format.specs.Values.{Content, content_by, content_of, latest_at, change_at, visited_in, visited_at, content_at}
 use Rattle.lxt_format.specs.Answers.{Shown, shown, Timed, timed_says, LookedUp, lookup_says}
 use Rattle.lxt_format.specs.Questions.{holding_bits, facility_refusal, change_refusal, reading_refusal, change_asked, change_buffer, value_refusal, value_asked, value_buffer, chain_asked}
 use Rattle.lxt_format.specs.Judge.{signal_by, signal_of, file_refusal, fault_from}
-use Rattle.lxt_format.specs.VisitedLaws.{visited_most}
+use Rattle.lxt_format.proofs.VisitedLaws.{visited_most}
 use Rattle.lxt_format.specs.declared.TimedValue.{TimedValue}
 use Rattle.lxt_format.specs.declared.Lookup.{Lookup}
 use Rattle.lxt_values.specs.Reals.{order_places}
 use Rattle.lxt_values.specs.Times as Ti
 use Rattle.lxt_values.specs.Times.{Readable}
-use Rattle.lxt_format.specs.ValuesLaws.{latest_change_sound}
+use Rattle.lxt_format.proofs.ValuesLaws.{latest_change_sound}
 use Rattle.lxt_values.proofs.SoundChains.{chain_readable}
 use Rattle.lxt_tables.specs.Stage.{tables_of}
 use Rattle.lxt_tables.proofs.TablesLaws.{Known, tables_known, entry_allowed, root_in, root_plain, width_most, has_real_lem, real_order}

@@ -1,7 +1,7 @@
 -- What is known of a chain or a change that was asked about.
 use Rattle.std.specs.Prelude.{ℕ, ◌≡◌, List}
 use Rattle.lxt_format.specs.Geometry.{root_of, sync_of, facts_of}
-use Rattle.lxt_format.specs.ChangesLaws.{Sound}
+use Rattle.lxt_format.specs.Changes.{Sound}
 use Rattle.lxt_format.specs.Judge.{signal_by, file_refusal, fault_from}
 use Rattle.lxt_format.specs.Questions.{facility_refusal, change_refusal}
 use Rattle.lxt_tables.specs.Stage.{tables_of}

@@ -16,7 +16,7 @@ use Rattle.lxt_format.specs.Basics.{range, all, ◌unless◌}
 use Rattle.lxt_format.specs.BasicsLaws.{on_test, on_zero, and_both, stops, neither, kept, all_range}
 use Rattle.lxt_format.specs.Sections.{facility_count}
 use Rattle.lxt_format.specs.Judge.{tables_refusal, file_refusal}
-use Rattle.lxt_format.specs.JudgeLaws.{passed, passed_count, accepted}
+use Rattle.lxt_format.proofs.JudgeLaws.{passed, passed_count, accepted}
 use Rattle.lxt_format.specs.Columns.{paired, numbers_in, offsets_in, onto}
 use Rattle.lxt_format.specs.Walk.{numbered, with_offsets, offsets_of, start_offsets, pair_allowed, record_allowed, offsets_after}
 use Rattle.lxt_format.specs.Questions.{start_refusal, start_asked, start_record, carry_refusal, carry_pairs, carry_offsets, carry_asked, carry_record, carry_output}

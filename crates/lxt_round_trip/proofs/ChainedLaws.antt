@@ -10,7 +10,7 @@ use native.Mathlib.Decide.{dec_le}
 use borrow.Author.Tests.{le-leb, lt-ltb, eq-eqb}
 use Rattle.lxt_format.specs.BasicsLaws.{on_test, both_and}
 use Rattle.lxt_format.specs.Changes.{previous_of, fault_at, clean_at}
-use Rattle.lxt_format.specs.ChangesLaws.{end_after}
+use Rattle.lxt_format.proofs.ChangesLaws.{end_after}
 use Rattle.lxt_format.specs.Judge.{signal_of, end_at}
 use Rattle.lxt_format.specs.Stray.{in_change}
 use Rattle.lxt_format.specs.declared.Pair.{Pair}

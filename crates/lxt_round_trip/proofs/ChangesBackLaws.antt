@@ -1,4 +1,5 @@
 -- A written file is accepted and clean, no byte of it is stray, and its full list, turned round, is what was given.
+use Rattle.std.specs.Prelude.{if◌then◌else◌}
 use Prim.Native.Nat.{ℕ, ◌≤◌, ◌<◌}
 use mathlib.Core.Path.{◌≡◌, sym, ◌∙◌}
 use mathlib.Core.Bool.{true, false, not, and-false}
@@ -7,14 +8,14 @@ use lib.ListN.{length}
 use native.Mathlib.Omega.{arith}
 use native.Mathlib.Decide.{dec_le}
 use Rattle.lxt_format.specs.Limits.{longest_file}
-use Rattle.lxt_format.specs.Basics.{if◌then◌else◌, any}
+use Rattle.lxt_format.specs.Basics.{any}
 use Rattle.lxt_format.specs.BasicsLaws.{on_test}
 use Rattle.lxt_format.specs.Sections.{end_of}
 use Rattle.lxt_format.specs.Geometry.{is_alias, sync_of}
-use Rattle.lxt_format.specs.GeometryLaws.{root_no_alias}
+use Rattle.lxt_format.proofs.GeometryLaws.{root_no_alias}
 use Rattle.lxt_format.specs.Judge.{all_changes, file_refusal, all_clean}
 use Rattle.lxt_format.specs.Walk.{sort, full_list, all_asked}
-use Rattle.lxt_format.specs.WalkLaws.{all_asked_lem}
+use Rattle.lxt_format.proofs.WalkLaws.{all_asked_lem}
 use Rattle.lxt_format.specs.Stray.{in_change, stray_at, stray_bytes}
 use Rattle.lxt_format.specs.declared.Pair.{Pair}
 use Rattle.lxt_chains.specs.Pending.{Each, root_offsets}

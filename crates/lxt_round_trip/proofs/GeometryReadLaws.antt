@@ -14,7 +14,7 @@ use Rattle.lxt_format.specs.BasicsLaws.{range_all}
 use Rattle.lxt_format.specs.Sections.{section_of}
 use Rattle.lxt_format.specs.Geometry.{rows_of, msb_of, lsb_of, flags_of, is_alias, flags_allowed, kind_of_flags, width_between}
 use Rattle.lxt_format.specs.Geometry.{geometry_allowed, geometries_allowed, facts_by, own_facts, root_of, aliases_allowed, roots_of, facts_of}
-use Rattle.lxt_format.specs.GeometryLaws.{root_self}
+use Rattle.lxt_format.proofs.GeometryLaws.{root_self}
 use Rattle.lxt_format.specs.Reals.{is_real, has_real}
 use Rattle.lxt_format.specs.declared.Kind.{Kind}
 use Rattle.lxt_format.specs.declared.Kind.TheVariants.{Bits, Integer, Real, Text}

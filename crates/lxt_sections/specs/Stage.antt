@@ -1,6 +1,6 @@
 -- What the functions of this crate answer, by the definitions of the format.
-use Rattle.std.specs.Prelude.{ℕ, ◌*◌, ◌≤◌, ◌≡◌, Bool, true, false, not, ◌&&◌, ◌||◌, List, map, length, eqb}
-use Rattle.lxt_format.specs.Basics.{if◌then◌else◌, ◌unless◌, ◌or_else◌, range, any}
+use Rattle.std.specs.Prelude.{ℕ, ◌*◌, ◌≤◌, ◌≡◌, Bool, true, false, not, ◌&&◌, ◌||◌, List, map, length, eqb, if◌then◌else◌}
+use Rattle.lxt_format.specs.Basics.{◌unless◌, ◌or_else◌, range, any}
 use Rattle.lxt_format.specs.Sections.{length_allowed, starts_right, ends_right, Item, listing_of, value_in, section_of, present, end_of, changes_from, facility_count, wide_times, times_at, time_count, nothing_compressed, times_once, sections_present, inside, bodies_inside, count_allowed}
 use Rattle.lxt_sections.specs.declared.Listing.{Listing}
 use Rattle.lxt_sections.specs.declared.Places.{Places}

@@ -1,4 +1,5 @@
 -- A law for each way out of the functions on aliases.
+use Rattle.std.specs.Prelude.{if◌then◌else◌}
 use Prim.Native.Nat.{ℕ, suc, ◌+◌, ◌-◌, ◌≤◌, ◌<◌}
 use mathlib.Core.Path.{◌≡◌, refl, sym, ◌∙◌}
 use mathlib.Core.Bool.{Bool, true, false, not, false≢true}
@@ -11,11 +12,11 @@ use native.Mathlib.Decide.{ℕ_discrete, dec_le}
 use native.Mathlib.Numerals.{add-one}
 use borrow.Author.Tests.{lt-ltb, le-ltb, le-leb, lt-leb, not-true}
 use Rattle.lxt_format.specs.Limits.{most_facilities}
-use Rattle.lxt_format.specs.Basics.{if◌then◌else◌, range, all}
+use Rattle.lxt_format.specs.Basics.{range, all}
 use Rattle.lxt_format.specs.BasicsLaws.{on_test, all_range, range_all, all_turn, all_stop, all_end}
 use Rattle.lxt_format.specs.Sections.{facility_count}
 use Rattle.lxt_format.specs.Geometry.{rows_of, is_alias, root_within, root_of, aliases_allowed}
-use Rattle.lxt_format.specs.GeometryLaws.{root_outside, root_here, root_next, root_self}
+use Rattle.lxt_format.proofs.GeometryLaws.{root_outside, root_here, root_next, root_self}
 use Rattle.lxt_tables.specs.Stage.{Geometry}
 use Rattle.lxt_tables.specs.Asked.{Roots, Stores, Resolved}
 use Rattle.lxt_tables.proofs.WayLaws.{passing, passing_same, root_of_alias}

@@ -1,4 +1,5 @@
 -- The names by their lengths alone, and a law for each way out of the functions on names.
+use Rattle.std.specs.Prelude.{if◌then◌else◌}
 use Prim.Native.Nat.{ℕ, zero, suc, ◌+◌, ◌-◌, ◌≤◌, ◌<◌, zero-le}
 use mathlib.Core.Path.{◌≡◌, refl, sym, ◌∙◌, ap}
 use mathlib.Core.Bool.{Bool, true, false, ◌&&◌, and-false}
@@ -12,7 +13,6 @@ use native.Mathlib.Decide.{dec_le}
 use native.Mathlib.Nat.{lt_of_not-le, add-zero}
 use borrow.Author.Tests.{lt-ltb, le-ltb, le-leb, lt-leb, leb-true, ltb-true}
 use Rattle.lxt_format.specs.Limits.{longest_name}
-use Rattle.lxt_format.specs.Basics.{if◌then◌else◌}
 use Rattle.lxt_format.specs.BasicsLaws.{and_both}
 use Rattle.lxt_format.specs.Bytes.{u16_at, to_zero}
 use Rattle.lxt_format.specs.BytesLaws.{u16_bytes}

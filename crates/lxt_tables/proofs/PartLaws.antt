@@ -16,7 +16,7 @@ use Rattle.lxt_format.specs.Sections.{section_of, present, end_of, facility_coun
 use Rattle.lxt_format.specs.SectionsLaws.{Located, body_inside_lem}
 use Rattle.lxt_format.specs.Names.{name_table, names_allowed}
 use Rattle.lxt_format.specs.Judge.{tables_refusal}
-use Rattle.lxt_format.specs.JudgeLaws.{passed, passed_located}
+use Rattle.lxt_format.proofs.JudgeLaws.{passed, passed_located}
 use Rattle.lxt_format.specs.Stray.{whole_size, in_body}
 use Rattle.lxt_sections.specs.Stage.{found}
 use Rattle.lxt_sections.specs.declared.Sections.{Sections}

@@ -1,4 +1,5 @@
 -- A law for each way out of the functions on the sections of one byte.
+use Rattle.std.specs.Prelude.{if◌then◌else◌}
 use Prim.Native.Nat.{ℕ, suc, ◌+◌, ◌-◌, ◌≤◌, ◌<◌}
 use mathlib.Core.Path.{◌≡◌, sym, ◌∙◌}
 use mathlib.Core.List.{List}
@@ -9,7 +10,6 @@ use native.Mathlib.Decide.{dec_le}
 use mir.Syntax.{w8}
 use mir.Val.{to_z}
 use borrow.Author.Tests.{lt-ltb, le-ltb, le-leb, lt-leb, ne_eqb}
-use Rattle.lxt_format.specs.Basics.{if◌then◌else◌}
 use Rattle.lxt_format.specs.Bytes.{byte_at, signed}
 use Rattle.lxt_format.specs.Sections.{section_of, present, timescale_allowed, timescale_of, initial_of}
 use Rattle.lxt_tables.specs.Asked.{OneByte}

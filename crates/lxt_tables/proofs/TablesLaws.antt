@@ -1,4 +1,5 @@
 -- What a file keeps whose tables were read without a refusal, as facts that the crates above cite.
+use Rattle.std.specs.Prelude.{if◌then◌else◌}
 use Prim.Native.Nat.{ℕ, zero, suc, ◌+◌, ◌≤◌, ◌<◌}
 use mathlib.Core.Path.{◌≡◌, refl, sym, ◌∙◌}
 use mathlib.Core.Bool.{Bool, true, false, not}
@@ -9,15 +10,15 @@ use native.Mathlib.Omega.{arith}
 use native.Mathlib.Decide.{ℕ_discrete}
 use borrow.Author.Tests.{ne_eqb, not-true}
 use Rattle.lxt_format.specs.Limits.{longest_file, most_facilities, widest_facility}
-use Rattle.lxt_format.specs.Basics.{if◌then◌else◌, range, any, select}
+use Rattle.lxt_format.specs.Basics.{range, any, select}
 use Rattle.lxt_format.specs.BasicsLaws.{on_test, all_range, neither}
 use Rattle.lxt_format.specs.Sections.{section_of, end_of, changes_from, facility_count, wide_times, times_at, time_count, timescale_of, initial_of}
 use Rattle.lxt_format.specs.Geometry.{is_alias, geometry_allowed, geometries_allowed, root_of, flags_of, kind_of_flags, facts_by, msb_of, lsb_of, own_facts, roots_of, sync_of}
-use Rattle.lxt_format.specs.GeometryLaws.{root_below, root_no_alias}
+use Rattle.lxt_format.proofs.GeometryLaws.{root_below, root_no_alias}
 use Rattle.lxt_format.specs.Times.{times_allowed}
 use Rattle.lxt_format.specs.Reals.{is_real, has_real, byte_order}
 use Rattle.lxt_format.specs.Judge.{tables_refusal, file_refusal}
-use Rattle.lxt_format.specs.JudgeLaws.{Passed, passed, passed_located, passed_length, passed_count, accepted}
+use Rattle.lxt_format.proofs.JudgeLaws.{Passed, passed, passed_located, passed_length, passed_count, accepted}
 use Rattle.lxt_format.specs.declared.Kind.{Kind}
 use Rattle.lxt_format.specs.declared.Kind.TheVariants.{Bits, Integer, Real, Text}
 use Rattle.lxt_sections.specs.Stage.{sections_of}

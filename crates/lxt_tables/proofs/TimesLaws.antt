@@ -19,8 +19,9 @@ use Rattle.lxt_format.specs.Bytes.{number_at, u32_at, numbers_at, signed}
 use Rattle.lxt_format.specs.BytesLaws.{length_numbers, get_d_numbers}
 use Rattle.lxt_format.specs.Sections.{end_of, wide_times, times_at, time_bytes, time_count, times_size}
 use Rattle.lxt_format.specs.Times.{time_of_bytes, first_time, last_time, positions_at, position_deltas, time_delta_bytes, time_deltas, sums_by, positions_of, times_of, in_range, table_allowed}
-use Rattle.lxt_format.specs.TimesLaws.{length_position_deltas, length_time_deltas}
-use Rattle.lxt_format.specs.BiasedTimes.{bias, biased, biased_bytes, biased_fits, le_z_biased, biased_sum, biased_bytes_lem, zero_plus}
+use Rattle.lxt_format.proofs.TimesLaws.{length_position_deltas, length_time_deltas}
+use Rattle.lxt_format.specs.BiasedTimes.{bias, biased, biased_bytes}
+use Rattle.lxt_format.proofs.BiasedTimesLaws.{biased_fits, le_z_biased, biased_sum, biased_bytes_lem, zero_plus}
 use Rattle.lxt_tables.specs.Asked.{Times, Begins, rises_to}
 
 -- ---- the pass over the deltas

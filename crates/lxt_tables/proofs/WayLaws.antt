@@ -11,7 +11,7 @@ use borrow.Author.Tests.{ltb-true, ltb-false}
 use Rattle.lxt_format.specs.BasicsLaws.{on_test}
 use Rattle.lxt_format.specs.Sections.{facility_count}
 use Rattle.lxt_format.specs.Geometry.{rows_of, is_alias, root_within, root_of}
-use Rattle.lxt_format.specs.GeometryLaws.{root_outside, root_here, root_next}
+use Rattle.lxt_format.proofs.GeometryLaws.{root_outside, root_here, root_next}
 
 -- ---- how many numbers below m pass a test
 

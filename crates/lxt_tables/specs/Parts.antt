@@ -1,6 +1,6 @@
 -- Parts of a file as numbers: where a part starts, times 2 ^ 32, and where it ends. So parts in the order of their numbers are in the order of their starts.
-use Rattle.std.specs.Prelude.{ℕ, ◌+◌, ◌*◌, ◌/◌, ◌%◌, ◌≡◌, Bool, ◌&&◌, List, ltb, leb}
-use Rattle.lxt_format.specs.Basics.{if◌then◌else◌, any}
+use Rattle.std.specs.Prelude.{ℕ, ◌+◌, ◌*◌, ◌/◌, ◌%◌, ◌≡◌, Bool, ◌&&◌, List, ltb, leb, if◌then◌else◌}
+use Rattle.lxt_format.specs.Basics.{any}
 use Rattle.lxt_format.specs.Sections.{inside}
 use Rattle.lxt_format.specs.Stray.{body_tags, in_body}
 

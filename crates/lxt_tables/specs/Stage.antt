@@ -1,6 +1,5 @@
 -- What the functions of this crate answer and ask, by the definitions of the format.
-use Rattle.std.specs.Prelude.{ℕ, ◌+◌, ◌*◌, ◌≤◌, ◌≡◌, false, List, length, replicate, pos, eqb}
-use Rattle.lxt_format.specs.Basics.{if◌then◌else◌}
+use Rattle.std.specs.Prelude.{ℕ, ◌+◌, ◌*◌, ◌≤◌, ◌≡◌, false, List, length, replicate, pos, eqb, if◌then◌else◌}
 use Rattle.lxt_format.specs.Sections.{section_of, end_of, changes_from, facility_count, wide_times, times_at, time_count, timescale_of, initial_of}
 use Rattle.lxt_format.specs.Reals.{has_real, byte_order}
 use Rattle.lxt_format.specs.Judge.{tables_refusal}

@@ -1,7 +1,7 @@
 -- What the functions answer that join the checks.
-use Rattle.std.specs.Prelude.{ℕ, ◌+◌, List, [], replicate}
+use Rattle.std.specs.Prelude.{ℕ, ◌+◌, List, [], replicate, if◌then◌else◌}
 use Rattle.std.proofs.Math.Seq.{slice}
-use Rattle.lxt_format.specs.Basics.{if◌then◌else◌, ◌unless◌, ◌or_else◌}
+use Rattle.lxt_format.specs.Basics.{◌unless◌, ◌or_else◌}
 use Rattle.lxt_format.specs.Sections.{section_of, end_of, changes_from, facility_count, wide_times, times_at, time_count, timescale_of, initial_of}
 use Rattle.lxt_format.specs.Names.{names_in, within_memory, names_allowed, names_size}
 use Rattle.lxt_format.specs.Geometry.{geometries_allowed, aliases_allowed}

@@ -1,6 +1,6 @@
 // Aliases and roots: refusal 12.
-ghost use Rattle.std.specs.Prelude.{◌≡◌, ◌+◌, ◌≤◌, ◌<◌, not};
-ghost use Rattle.lxt_format.specs.Basics.{if◌then◌else◌, range, all};
+ghost use Rattle.std.specs.Prelude.{◌≡◌, ◌+◌, ◌≤◌, ◌<◌, not, if◌then◌else◌};
+ghost use Rattle.lxt_format.specs.Basics.{range, all};
 ghost use Rattle.lxt_format.specs.Limits.{most_facilities};
 ghost use Rattle.lxt_format.specs.Geometry.{rows_of, is_alias, root_of, aliases_allowed};
 ghost use Rattle.lxt_tables.specs.Stage.{Geometry};

@@ -11,7 +11,8 @@ use borrow.Author.Tests.{lt-ltb, le-ltb, ltb-true}
 use mir.Syntax.{w64}
 use mir.Val.{Fits, SFits, to_z, of_z}
 use mir.ValLaws.{to_z-of_z}
-use Rattle.lxt_format.specs.BiasedTimes.{bias, biased, unbiased, unbiased_biased}
+use Rattle.lxt_format.specs.BiasedTimes.{bias, biased, unbiased}
+use Rattle.lxt_format.proofs.BiasedTimesLaws.{unbiased_biased}
 use Rattle.lxt_format.specs.Changes.{chain_of}
 use Rattle.lxt_format.specs.Values.{latest_at, visited_in}
 use Rattle.lxt_values.specs.Times.{Limit}

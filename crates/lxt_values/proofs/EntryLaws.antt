@@ -11,8 +11,9 @@ use Rattle.lxt_format.specs.Bytes.{number_at, u32_at}
 use Rattle.lxt_format.specs.BytesLaws.{get_d_numbers}
 use Rattle.lxt_format.specs.Sections.{end_of, wide_times, times_at, time_bytes, time_count}
 use Rattle.lxt_format.specs.Times.{positions_at, position_deltas, time_delta_bytes, positions_of, table_allowed, times_allowed, time_of}
-use Rattle.lxt_format.specs.TimesLaws.{sum_first, sum_next, length_position_deltas, Decides}
-use Rattle.lxt_format.specs.BiasedTimes.{biased, unbiased, biased_bytes, unbiased_biased, time_mag, biased_times, position_below, entry_fits, biased_first, biased_next, biased_time}
+use Rattle.lxt_format.proofs.TimesLaws.{sum_first, sum_next, length_position_deltas, Decides}
+use Rattle.lxt_format.specs.BiasedTimes.{biased, unbiased, biased_bytes, biased_times}
+use Rattle.lxt_format.proofs.BiasedTimesLaws.{unbiased_biased, time_mag, position_below, entry_fits, biased_first, biased_next, biased_time}
 use Rattle.lxt_values.specs.Times.{Times}
 use Rattle.lxt_values.specs.Entries.{EntryAt, Latest}
 

@@ -1,4 +1,5 @@
 -- The laws of expanding names: the names of an allowed list, one after the other, at offsets of the file.
+use Rattle.std.specs.Prelude.{if◌then◌else◌}
 use Prim.Native.Nat.{ℕ, zero, suc, ◌+◌, ◌-◌, ◌≤◌, ◌<◌}
 use mathlib.Core.Path.{◌≡◌, refl, sym, ◌∙◌, ap}
 use mathlib.Core.Bool.{Bool, true, false, ◌&&◌, false≢true}
@@ -13,7 +14,6 @@ use native.Mathlib.Numerals.{add-one}
 use borrow.Author.Tests.{leb-true, ltb-true}
 use Rattle.lxt_format.specs.Limits.{longest_name}
 use Rattle.lxt_format.specs.Limits.{longest_name}
-use Rattle.lxt_format.specs.Basics.{if◌then◌else◌}
 use Rattle.lxt_format.specs.Bytes.{u16_at, to_zero}
 use Rattle.lxt_format.specs.BytesLaws.{u16_bytes}
 use Rattle.lxt_format.specs.Names.{named, names_in, within_memory, name_among}

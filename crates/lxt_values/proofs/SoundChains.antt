@@ -7,7 +7,7 @@ use native.Mathlib.Omega.{arith}
 use Rattle.lxt_format.specs.Basics.{first_fault}
 use Rattle.lxt_format.specs.BasicsLaws.{neither}
 use Rattle.lxt_format.specs.Changes.{Signal, change_end, fault_at, chain_of, chain_fault}
-use Rattle.lxt_format.specs.ChangesLaws.{sound}
+use Rattle.lxt_format.proofs.ChangesLaws.{sound}
 use Rattle.lxt_values.specs.Times.{Readable, no_change, change}
 
 module _ (s : List ℕ) (g : Signal) where

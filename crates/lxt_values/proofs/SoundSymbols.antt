@@ -9,7 +9,7 @@ use native.Mathlib.Omega.{arith}
 use borrow.Author.Tests.{leb-true, eqb-true}
 use Rattle.lxt_format.specs.BasicsLaws.{or_either}
 use Rattle.lxt_format.specs.Changes.{signal, command_allowed, data_size, change_end}
-use Rattle.lxt_format.specs.ChangesLaws.{Sound}
+use Rattle.lxt_format.specs.Changes.{Sound}
 use Rattle.lxt_format.specs.declared.Kind.{Kind}
 use Rattle.lxt_format.specs.declared.Kind.TheVariants.{Bits, Integer, Real, Text}
 use Rattle.lxt_changes.specs.Faults.{symbolic}

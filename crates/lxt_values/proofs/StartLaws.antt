@@ -1,4 +1,5 @@
 -- The laws of what a facility shows at a time: before its first change, and by its latest one.
+use Rattle.std.specs.Prelude.{if◌then◌else◌}
 use Prim.Native.Nat.{ℕ}
 use mathlib.Core.Path.{◌≡◌, refl, ◌∙◌, ap}
 use mathlib.Core.List.{List, ◌++◌}
@@ -6,7 +7,7 @@ use lib.ListN.{drop, replicate, length-replicate}
 use lib.IntN.{ℤ}
 use lib.Dec.{eqb}
 use borrow.Author.Tests.{ne_eqb}
-use Rattle.lxt_format.specs.Basics.{if◌then◌else◌, Answer, given}
+use Rattle.lxt_format.specs.Basics.{Answer, given}
 use Rattle.lxt_format.specs.Sections.{initial_of}
 use Rattle.lxt_format.specs.Geometry.{own_facts}
 use Rattle.lxt_format.specs.Values.{bits, symbol_of, content_by, content_of, change_at, initial_by, content_at}

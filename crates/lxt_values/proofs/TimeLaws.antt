@@ -13,12 +13,13 @@ use borrow.Author.Tests.{le-leb, lt-leb, lt-ltb, le-ltb, ne_eqb, eq-eqb}
 use Rattle.lxt_format.specs.BasicsLaws.{on_test, on_zero}
 use Rattle.lxt_format.specs.Sections.{time_count}
 use Rattle.lxt_format.specs.Times.{positions_of, times_of, time_of}
-use Rattle.lxt_format.specs.TimesLaws.{positions_never_fall, Decides, entry_0_decides, length_times, decider}
-use Rattle.lxt_format.specs.BiasedTimes.{bias, biased, unbiased, biased_unbiased, le_z_biased, biased_times, biased_time, time_mag, times_never_fall}
+use Rattle.lxt_format.proofs.TimesLaws.{positions_never_fall, Decides, entry_0_decides, length_times, decider}
+use Rattle.lxt_format.specs.BiasedTimes.{bias, biased, unbiased, biased_times}
+use Rattle.lxt_format.proofs.BiasedTimesLaws.{biased_unbiased, le_z_biased, biased_time, time_mag, times_never_fall}
 use Rattle.lxt_format.specs.Changes.{data_at, previous_of, chain_within, chain_of}
-use Rattle.lxt_format.specs.ChangesLaws.{previous_lt, chain_none, chain_more}
+use Rattle.lxt_format.proofs.ChangesLaws.{previous_lt, chain_none, chain_more}
 use Rattle.lxt_format.specs.Values.{latest_at, visited_in}
-use Rattle.lxt_format.specs.VisitedLaws.{none_visited, visited_passed, visited_answered}
+use Rattle.lxt_format.proofs.VisitedLaws.{none_visited, visited_passed, visited_answered}
 use Rattle.lxt_values.specs.Times.{Times, Limit, Readable, change, first_below, visited_to}
 use Rattle.lxt_values.specs.Entries.{EntryAt}
 use Rattle.lxt_values.proofs.EntryLaws.{table, some_entry, tells}

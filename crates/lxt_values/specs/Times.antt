@@ -1,7 +1,6 @@
 -- What the functions on times ask of the file, and what they answer.
-use Rattle.std.specs.Prelude.{ℕ, suc, ◌+◌, ◌≤◌, ◌<◌, ◌≡◌, Bool, true, List, [], ◌∷◌, length, ℤ, ltb}
+use Rattle.std.specs.Prelude.{ℕ, suc, ◌+◌, ◌≤◌, ◌<◌, ◌≡◌, Bool, true, List, [], ◌∷◌, length, ℤ, ltb, if◌then◌else◌}
 use Rattle.std.specs.Int.Signed.{le_z}
-use Rattle.lxt_format.specs.Basics.{if◌then◌else◌}
 use Rattle.lxt_format.specs.Sections.{end_of, wide_times, times_at, time_count, times_size}
 use Rattle.lxt_format.specs.Times.{times_allowed, time_of}
 use Rattle.lxt_format.specs.Changes.{data_at}

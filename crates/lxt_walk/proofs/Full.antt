@@ -13,8 +13,8 @@ use Rattle.lxt_format.specs.BasicsLaws.{on_test, on_zero, and_both}
 use Rattle.lxt_format.specs.Sections.{facility_count, end_of}
 use Rattle.lxt_format.specs.Geometry.{is_alias, root_of, roots_of, sync_of}
 use Rattle.lxt_format.specs.Changes.{previous_of}
-use Rattle.lxt_format.specs.ChangesLaws.{previous_lt}
-use Rattle.lxt_format.specs.JudgeLaws.{accepted}
+use Rattle.lxt_format.proofs.ChangesLaws.{previous_lt}
+use Rattle.lxt_format.proofs.JudgeLaws.{accepted}
 use Rattle.lxt_format.specs.Judge.{chains_refusal, changes_of, all_changes, end_at, file_refusal}
 use Rattle.lxt_format.specs.Walk.{asks, sort, full_list}
 use Rattle.lxt_format.specs.declared.Pair.{Pair}
@@ -25,7 +25,7 @@ use Rattle.lxt_chains.proofs.Step.{changes_none, changes_more}
 use Rattle.lxt_chains.proofs.Bridge.{all_roots}
 use Rattle.lxt_chains.proofs.Check17.{Fits}
 use Rattle.lxt_chains.proofs.Accepted.{all_allowed, allowed_fits, apart_stacked}
-use Rattle.lxt_format.specs.WalkLaws.{asked_root}
+use Rattle.lxt_format.proofs.WalkLaws.{asked_root}
 use Rattle.lxt_walk.proofs.Wider.{pairs_of, below_pairs, pairs_chosen}
 
 -- by strictly falling offset

@@ -1,4 +1,5 @@
 -- Starting a walk: the loops that fill its record, and a law for each way out.
+use Rattle.std.specs.Prelude.{if◌then◌else◌}
 use Prim.Native.Nat.{ℕ, zero, suc, ◌+◌, ◌-◌, ◌≤◌, ◌<◌}
 use native.Mathlib.Omega.{arith}
 use native.Mathlib.Decide.{ℕ_discrete}
@@ -9,13 +10,13 @@ use lib.ListN.{length, get_or, set, take, drop, replicate, length-set, length-re
 use lib.Seq.{get_or-set_same, get_or-set_other, drop-set-lt, get_or-take, length-take-le, ext_get_or}
 use lib.Dec.{ltb, eqb}
 use borrow.Author.Tests.{eq-eqb, ne_eqb, le-leb, lt-leb, ltb-true, ltb-false, eqb-false}
-use Rattle.lxt_format.specs.Basics.{if◌then◌else◌, Answer, given, refused, range, any}
+use Rattle.lxt_format.specs.Basics.{Answer, given, refused, range, any}
 use Rattle.lxt_format.specs.BasicsLaws.{or_either, or_none, stops, answer_given, answer_refused, length_range, range_upto, range_done}
 use Rattle.lxt_format.specs.Sections.{facility_count}
 use Rattle.lxt_format.specs.Geometry.{root_of, sync_of}
-use Rattle.lxt_format.specs.GeometryLaws.{root_below}
+use Rattle.lxt_format.proofs.GeometryLaws.{root_below}
 use Rattle.lxt_format.specs.Judge.{file_refusal}
-use Rattle.lxt_format.specs.JudgeLaws.{accepted}
+use Rattle.lxt_format.proofs.JudgeLaws.{accepted}
 use Rattle.lxt_format.specs.Columns.{paired, numbers_in, offsets_in, onto}
 use Rattle.lxt_format.specs.Walk.{asks, start_offsets, with_offsets}
 use Rattle.lxt_format.specs.Questions.{start_refusal, start_asked, start_record}

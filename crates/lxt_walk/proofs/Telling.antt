@@ -20,8 +20,8 @@ use Rattle.lxt_chains.specs.Pending.{pair_of, pending_changes, first_of}
 use Rattle.lxt_chains.proofs.Lists.{each_map, each_drop}
 use Rattle.lxt_chains.proofs.Bridge.{full_start, length_start}
 use Rattle.lxt_walk.proofs.Handed.{length_after, pending_first, call_hands, call_leaves, call_done}
-use Rattle.lxt_format.specs.JudgeLaws.{passed, accepted}
-use Rattle.lxt_format.specs.WalkLaws.{asked_below}
+use Rattle.lxt_format.proofs.JudgeLaws.{passed, accepted}
+use Rattle.lxt_format.proofs.WalkLaws.{asked_below}
 use Rattle.lxt_walk.proofs.Full.{full_asked, full_allowed, full_falling, falling_at}
 use Rattle.lxt_walk.proofs.Record.{length_flat, flat_append, with_here, with_past, length_with, offsets_with, with_again, first_none, record_allowed_lem}
 use Rattle.lxt_walk.specs.Calls.{Made, Carried, Kept, Refused, Handed, Told, handed_by, output_of, size_by, sizes_of, pair_at, Ended, Walked}

@@ -1,4 +1,5 @@
 -- Laws of the second pass: the parts of the file, and the whole.
+use Rattle.std.specs.Prelude.{if◌then◌else◌}
 use Prim.Native.Nat.{ℕ, zero, suc, ◌+◌, ◌*◌, ◌-◌, ◌≤◌, ◌<◌}
 use native.Mathlib.Omega.{arith}
 use native.Mathlib.Nat.{add-zero, zero-add}
@@ -7,7 +8,7 @@ use mathlib.Core.Bool.{Bool}
 use mathlib.Core.List.{List, [], ◌∷◌, ◌++◌, map, reverse, append-nil}
 use lib.ListN.{length, get_or, drop, length-append, length-map}
 use lib.IntN.{ℤ}
-use Rattle.lxt_format.specs.Basics.{if◌then◌else◌, joined, range}
+use Rattle.lxt_format.specs.Basics.{joined, range}
 use Rattle.lxt_format.specs.Buffers.{placed, length_placed, placed_more}
 use Rattle.lxt_format.specs.Columns.{onto}
 use Rattle.lxt_written.specs.Input.{Trace, facility_of, change_of, trace_of}

@@ -1,4 +1,5 @@
 -- Laws of the first pass over the changes.
+use Rattle.std.specs.Prelude.{if◌then◌else◌}
 use Prim.Native.Nat.{ℕ, ◌+◌, ◌-◌, ◌≤◌, ◌<◌}
 use native.Mathlib.Omega.{arith}
 use native.Mathlib.Nat.{add-zero, zero-add, add_assoc}
@@ -9,7 +10,7 @@ use lib.ListN.{length, get_or, drop, set, length-append}
 use lib.Dec.{leb, eqb}
 use borrow.Author.Tests.{le-leb, lt-leb, ne_eqb, eqb-true, not-true, not-false}
 use Rattle.lxt_format.specs.Limits.{longest_file}
-use Rattle.lxt_format.specs.Basics.{if◌then◌else◌, all, joined}
+use Rattle.lxt_format.specs.Basics.{all, joined}
 use Rattle.lxt_format.specs.BasicsLaws.{on_test, or_none}
 use Rattle.lxt_format.specs.declared.Pair.{Pair}
 use Rattle.lxt_written.specs.Input.{change_of, change_row_allowed}

@@ -1,8 +1,8 @@
 -- What the functions over the rows of changes answer and ask. `rows` are those of the facilities, `row` is one of a change.
-use Rattle.std.specs.Prelude.{ℕ, ◌+◌, ◌*◌, ◌-◌, ◌≤◌, ◌<◌, ◌≡◌, Bool, true, false, not, ◌&&◌, ◌||◌, length, get_or, drop, leb, eqb}
+use Rattle.std.specs.Prelude.{ℕ, ◌+◌, ◌*◌, ◌-◌, ◌≤◌, ◌<◌, ◌≡◌, Bool, true, false, not, ◌&&◌, ◌||◌, length, get_or, drop, leb, eqb, if◌then◌else◌}
 use mathlib.Core.List.{List, [], ◌++◌, map, reverse, reverse_aux}
 use Rattle.lxt_format.specs.Limits.{longest_file, widest_facility}
-use Rattle.lxt_format.specs.Basics.{if◌then◌else◌, all, joined}
+use Rattle.lxt_format.specs.Basics.{all, joined}
 use Rattle.lxt_format.specs.Buffers.{placed}
 use Rattle.lxt_format.specs.declared.Pair.{Pair}
 use Rattle.lxt_written.specs.Input.{Facility, part, kind_of_code, facility_of, change_of, change_row_allowed}

@@ -1,7 +1,6 @@
 // The changes, in two passes: the first finds whether each is allowed, where they end and how many entries the
 // time table has; the second puts them, with the entries.
-ghost use Rattle.std.specs.Prelude.{◌≡◌, false, ◌+◌, ◌-◌, ◌≤◌, ◌<◌, length, get_or};
-ghost use Rattle.lxt_format.specs.Basics.{if◌then◌else◌};
+ghost use Rattle.std.specs.Prelude.{◌≡◌, false, ◌+◌, ◌-◌, ◌≤◌, ◌<◌, length, get_or, if◌then◌else◌};
 ghost use Rattle.lxt_writer.specs.Changes.{Widths, Free, RowSized, is_new, Fresh, ChangesMeasured, row_bytes, EntryAsked, EntryPut, RowAsked, RowPut, PutAsked, ChangesPut};
 
 use lxt_facilities::facilities;

@@ -1,8 +1,8 @@
 -- Paper 02, Ask 5: "Given facilities (name, kind, msb, lsb), an initial symbol, a timescale and changes in file order with times".
 -- What is written, as a trace, and as the two tables and two pools of bytes in which it is lent.
-use Rattle.std.specs.Prelude.{ℕ, ◌+◌, Bool, ◌&&◌, List, map, length, get_or, ℤ, leb, eqb}
+use Rattle.std.specs.Prelude.{ℕ, ◌+◌, Bool, ◌&&◌, List, map, length, get_or, ℤ, leb, eqb, if◌then◌else◌}
 use Rattle.std.proofs.Math.Seq.{slice}
-use Rattle.lxt_format.specs.Basics.{if◌then◌else◌, all}
+use Rattle.lxt_format.specs.Basics.{all}
 use Rattle.lxt_format.specs.declared.Kind.{Kind}
 use Rattle.lxt_format.specs.declared.Kind.TheVariants.{Bits, Integer, Real, Text}
 

@@ -1,6 +1,6 @@
 -- Paper 02, Ask 5: the bytes of the changes that are written.
-use Rattle.std.specs.Prelude.{ℕ, zero, suc, ◌+◌, ◌*◌, ◌-◌, ◌/◌, ◌%◌, ◌^◌, Bool, ◌&&◌, List, [], ◌∷◌, ◌++◌, map, length, get_or, drop, ltb, eqb}
-use Rattle.lxt_format.specs.Basics.{if◌then◌else◌, range, all, select, joined}
+use Rattle.std.specs.Prelude.{ℕ, zero, suc, ◌+◌, ◌*◌, ◌-◌, ◌/◌, ◌%◌, ◌^◌, Bool, ◌&&◌, List, [], ◌∷◌, ◌++◌, map, length, get_or, drop, ltb, eqb, if◌then◌else◌}
+use Rattle.lxt_format.specs.Basics.{range, all, select, joined}
 use Rattle.lxt_format.specs.Reals.{place_of}
 use Rattle.lxt_format.specs.Changes.{command_allowed, symbol_size, packed_size}
 use Rattle.lxt_format.specs.Values.{symbols, symbol_of}

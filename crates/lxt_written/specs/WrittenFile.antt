@@ -1,6 +1,6 @@
 -- Paper 02, Ask 5: "write an LXT file of version 4 with tag 06". The sections, and the whole file.
-use Rattle.std.specs.Prelude.{ℕ, suc, ◌+◌, ◌-◌, Bool, List, [], ◌∷◌, ◌++◌, map, reverse, length, get_or, drop, ℤ, pos, negsuc, eqb}
-use Rattle.lxt_format.specs.Basics.{if◌then◌else◌, range, any, joined}
+use Rattle.std.specs.Prelude.{ℕ, suc, ◌+◌, ◌-◌, Bool, List, [], ◌∷◌, ◌++◌, map, reverse, length, get_or, drop, ℤ, pos, negsuc, eqb, if◌then◌else◌}
+use Rattle.lxt_format.specs.Basics.{range, any, joined}
 use Rattle.lxt_format.specs.Sections.{Item, value_in}
 use Rattle.lxt_format.specs.Names.{memory_of}
 use Rattle.lxt_format.specs.Reals.{test_pattern, is_real}

@@ -1,8 +1,8 @@
 -- How long the sections of a written file are, and where they start.
-use Rattle.std.specs.Prelude.{ℕ, suc, ◌+◌, ◌*◌, ◌≡◌, refl, true, false, List, [], ◌∷◌, ◌++◌, map, reverse, length}
+use Rattle.std.specs.Prelude.{ℕ, suc, ◌+◌, ◌*◌, ◌≡◌, refl, true, false, List, [], ◌∷◌, ◌++◌, map, reverse, length, if◌then◌else◌}
 use Rattle.std.proofs.Common.{ap, ◌∙◌, length-append, arith}
 use Rattle.std.proofs.lemmas.List.{length-map}
-use Rattle.lxt_format.specs.Basics.{if◌then◌else◌, range, joined}
+use Rattle.lxt_format.specs.Basics.{range, joined}
 use Rattle.lxt_format.specs.BasicsLaws.{on_test, length_range}
 use Rattle.lxt_format.specs.Sections.{value_in}
 use Rattle.lxt_format.specs.Names.{memory_of}

@@ -1,5 +1,5 @@
 use native.Mathlib.Omega.{arith}
-use Rattle.lxt_format.specs.ChangesLaws.{previous_lt}
+use Rattle.lxt_format.proofs.ChangesLaws.{previous_lt}
 use Rattle.lxt_values.proofs.TimeLaws.{falling_begun, chain_ended, first_below_lem, change_readable, falling_turn}
 use Rattle.lxt_values.proofs.times.first_below.Goals as goal
 

@@ -1,4 +1,4 @@
-use Rattle.lxt_format.specs.Basics.{if◌then◌else◌}
+use Rattle.std.specs.Prelude.{if◌then◌else◌}
 use mathlib.Core.Path.{ap, ◌∙◌}
 use native.Mathlib.Omega.{arith}
 use Rattle.lxt_writer.proofs.MeasureLaws.{measure_begun, time_falls, row_refused, measure_turn, measure_ended, measure_refused, table_known}

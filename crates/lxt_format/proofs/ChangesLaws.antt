@@ -6,7 +6,7 @@ use borrow.Author.Tests.{eq-eqb, ne_eqb, leb-true, ltb-true}
 use Rattle.lxt_format.specs.Basics.{all, first_fault}
 use Rattle.lxt_format.specs.BasicsLaws.{and_both, kept, neither, fault_next, fault_here}
 use Rattle.lxt_format.specs.Bytes.{byte_at}
-use Rattle.lxt_format.specs.Changes.{Signal, command_of, delta_size, data_at, previous_of, command_allowed, data_allowed, clean_at, change_end, previous_allowed, fault_at, chain_within, chain_of, chain_fault, chain_clean}
+use Rattle.lxt_format.specs.Changes.{Signal, command_of, delta_size, data_at, previous_of, command_allowed, data_allowed, clean_at, change_end, previous_allowed, fault_at, chain_within, chain_of, chain_fault, chain_clean, Sound}
 
 -- ---- the previous change
 
@@ -73,17 +73,7 @@ module _ (s : List ℕ) (g : Signal) where
   unfolding chain_clean all
   clean_next o h = rw (chain_more s o h)
 
-  -- what a change without a fault keeps
-  pub record Sound (o : ℕ) : Type 0 where
-    pub starts : g.from ≤ o
-    pub before : o < g.end
-    pub top : byte_at s o < 0x40
-    pub command : command_allowed g.kind (command_of s o) ≡ true
-    pub ends : change_end s g o ≤ g.end
-    pub data' : data_allowed s g o ≡ true
-    pub previous : previous_allowed s g.from o ≡ true
-
-  pub sound : (o : ℕ) → fault_at s g o ≡ 0 → Sound o
+  pub sound : (o : ℕ) → fault_at s g o ≡ 0 → Sound s g o
   unfolding fault_at
   sound o h =
       let a = neither _ _ h in

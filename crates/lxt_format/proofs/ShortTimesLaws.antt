@@ -1,6 +1,6 @@
 -- What a file keeps that has times of 32 bits alone: the proof of the claim of ShortTimes.
 use Prim.Native.Nat.{ℕ, zero, suc, ◌+◌, ◌*◌, ◌≤◌, ◌<◌, max}
-use Rattle.std.specs.Prelude.{◌≡◌, Bool, true, false, not, ◌&&◌, ◌||◌, get_or, drop, ℤ, pos, ◌+ℤ◌, ltb, leb, eqb}
+use Rattle.std.specs.Prelude.{◌≡◌, Bool, true, false, not, ◌&&◌, ◌||◌, get_or, drop, ℤ, pos, ◌+ℤ◌, ltb, leb, eqb, if◌then◌else◌}
 use Rattle.std.proofs.Math.Path.{refl}
 use Rattle.std.proofs.Common.{sym, ◌∙◌, ap, le-leb, lt-ltb}
 use Rattle.std.proofs.Math.Bool.{and-false, and-true, or-false}
@@ -9,7 +9,7 @@ use Rattle.std.specs.Int.Signed.{le_z, non_neg}
 use native.Mathlib.Omega.{arith}
 use Rattle.std.proofs.Math.Decide.{dec_le}
 use Rattle.std.proofs.lemmas.Bool.{lt-leb}
-use Rattle.lxt_format.specs.Basics.{if◌then◌else◌, ◌unless◌, ◌or_else◌, range, all}
+use Rattle.lxt_format.specs.Basics.{◌unless◌, ◌or_else◌, range, all}
 use Rattle.lxt_format.specs.BasicsLaws.{on_test}
 use Rattle.lxt_format.specs.Bytes.{number_at, u32_at, numbers_at, signed}
 use Rattle.lxt_format.specs.BytesLaws.{AreBytes, u32_lt}

@@ -9,7 +9,7 @@ use Rattle.lxt_format.specs.Basics.{range, select}
 use Rattle.lxt_format.specs.BasicsLaws.{on_test, and_both, both_and, any_range, range_any}
 use Rattle.lxt_format.specs.Sections.{facility_count}
 use Rattle.lxt_format.specs.Geometry.{is_alias, root_of, aliases_allowed, roots_of}
-use Rattle.lxt_format.specs.GeometryLaws.{root_no_alias, root_self, root_below}
+use Rattle.lxt_format.proofs.GeometryLaws.{root_no_alias, root_self, root_below}
 use Rattle.lxt_format.specs.Judge.{all_changes}
 use Rattle.lxt_format.specs.Walk.{asks, sort, full_list, all_asked}
 

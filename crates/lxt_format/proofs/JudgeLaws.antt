@@ -12,8 +12,8 @@ use Rattle.lxt_format.specs.Names.{names_allowed}
 use Rattle.lxt_format.specs.Geometry.{is_alias, geometries_allowed, aliases_allowed, roots_of, sync_of}
 use Rattle.lxt_format.specs.Times.{times_allowed}
 use Rattle.lxt_format.specs.Reals.{real_test_allowed}
-use Rattle.lxt_format.specs.Changes.{previous_of, chain_fault}
-use Rattle.lxt_format.specs.ChangesLaws.{Sound, sound, chain_more}
+use Rattle.lxt_format.specs.Changes.{previous_of, chain_fault, Sound}
+use Rattle.lxt_format.proofs.ChangesLaws.{sound, chain_more}
 use Rattle.lxt_format.specs.Judge.{tables_refusal_by, tables_refusal, signal_of, fault_from, chains_refusal, changes_apart, file_refusal}
 
 -- what a file keeps that refusals 1 to 14 pass

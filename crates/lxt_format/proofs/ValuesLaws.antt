@@ -12,13 +12,13 @@ use Rattle.lxt_format.specs.Basics.{◌unless◌, any, first_fault}
 use Rattle.lxt_format.specs.BasicsLaws.{on_test, or_either, neither, kept}
 use Rattle.lxt_format.specs.Sections.{facility_count}
 use Rattle.lxt_format.specs.Geometry.{root_of, sync_of}
-use Rattle.lxt_format.specs.GeometryLaws.{root_below, root_no_alias}
+use Rattle.lxt_format.proofs.GeometryLaws.{root_below, root_no_alias}
 use Rattle.lxt_format.specs.Times.{time_of}
-use Rattle.lxt_format.specs.Changes.{Signal, fault_at, chain_of, chain_fault}
-use Rattle.lxt_format.specs.ChangesLaws.{Sound, sound}
+use Rattle.lxt_format.specs.Changes.{Signal, fault_at, chain_of, chain_fault, Sound}
+use Rattle.lxt_format.proofs.ChangesLaws.{sound}
 use Rattle.lxt_format.specs.Values.{latest_at}
 use Rattle.lxt_format.specs.Judge.{file_refusal, fault_from}
-use Rattle.lxt_format.specs.JudgeLaws.{passed, accepted, root_sound}
+use Rattle.lxt_format.proofs.JudgeLaws.{passed, accepted, root_sound}
 use Rattle.lxt_format.specs.Questions.{facility_refusal}
 
 module _ (s : List ℕ) (g : Signal) where

@@ -12,10 +12,10 @@ use Rattle.lxt_format.specs.Geometry.{facts_by, own_facts, root_of, sync_of, fac
 use Rattle.lxt_format.specs.Changes.{data_at, data_size, change_end}
 use Rattle.lxt_format.specs.Values.{Content, content_by, content_of, change_at, initial_by, content_at, TextSource, in_file, lent_text, other_kind, source_of, source_by, text_at}
 use Rattle.lxt_format.specs.Judge.{signal_of, file_refusal, fault_from}
-use Rattle.lxt_format.specs.JudgeLaws.{accepted, passed, passed_located}
+use Rattle.lxt_format.proofs.JudgeLaws.{accepted, passed, passed_located}
 use Rattle.lxt_format.specs.Answers.{shown}
 use Rattle.lxt_format.specs.Questions.{facility_refusal, value_refusal, value_asked, text_asked, part_by, text_part}
-use Rattle.lxt_format.specs.ValuesLaws.{latest_change_sound, facility_sound}
+use Rattle.lxt_format.proofs.ValuesLaws.{latest_change_sound, facility_sound}
 use Rattle.lxt_format.specs.LentText.{size_said, BothAgree, zero_end, PartInside, with_default, OfTexts, OfOtherKinds}
 use Rattle.lxt_format.specs.declared.Kind.{Kind}
 use Rattle.lxt_format.specs.declared.Kind.TheVariants.{Bits, Integer, Real, Text}

@@ -1,6 +1,6 @@
 -- The laws of the changes that a lookup visits, and the proofs of the claims in Visited.
 use Prim.Native.Nat.{ℕ, zero, suc, ◌+◌, ◌*◌, ◌-◌, ◌/◌, ◌≤◌, ◌<◌, max}
-use Rattle.std.specs.Prelude.{◌≡◌, Bool, true, false, not, ℤ, pos, negsuc, leb, ltb, eqb}
+use Rattle.std.specs.Prelude.{◌≡◌, Bool, true, false, not, ℤ, pos, negsuc, leb, ltb, eqb, if◌then◌else◌}
 use Rattle.std.proofs.Math.Path.{refl}
 use Rattle.std.proofs.Common.{◌∙◌, ap, le-leb, lt-ltb, le-ltb, leb-true, eq-eqb, ne_eqb}
 use mathlib.Core.List.{List, [], ◌∷◌, map}
@@ -9,18 +9,18 @@ use Rattle.std.specs.Int.Signed.{le_z, lt_z}
 use native.Mathlib.Omega.{arith}
 use Rattle.std.proofs.Math.Decide.{dec_le}
 use Rattle.std.proofs.lemmas.Bool.{lt-leb}
-use Rattle.lxt_format.specs.Basics.{if◌then◌else◌, select, first_fault}
+use Rattle.lxt_format.specs.Basics.{select, first_fault}
 use Rattle.lxt_format.specs.BasicsLaws.{on_test, on_zero, and_both, neither}
 use Rattle.lxt_format.specs.Sections.{end_of, changes_from}
 use Rattle.lxt_format.specs.Geometry.{root_of, sync_of}
 use Rattle.lxt_format.specs.Times.{time_of}
 use Rattle.lxt_format.specs.Changes.{Signal, delta_of, previous_of, previous_allowed, fault_at, chain_within, chain_of, chain_fault}
-use Rattle.lxt_format.specs.ChangesLaws.{previous_lt, chain_none, sound, end_after}
+use Rattle.lxt_format.proofs.ChangesLaws.{previous_lt, chain_none, sound, end_after}
 use Rattle.lxt_format.specs.Values.{latest_at, change_at, visited_in, visited_at}
 use Rattle.lxt_format.specs.Judge.{signal_of, fault_from}
-use Rattle.lxt_format.specs.JudgeLaws.{newest_sound}
+use Rattle.lxt_format.proofs.JudgeLaws.{newest_sound}
 use Rattle.lxt_format.specs.Questions.{facility_refusal, value_refusal, value_asked}
-use Rattle.lxt_format.specs.ValuesLaws.{facility_sound}
+use Rattle.lxt_format.proofs.ValuesLaws.{facility_sound}
 use Rattle.lxt_format.specs.Visited.{VisitedMost, NoneAnswered}
 
 -- ---- "time after t"

@@ -10,7 +10,7 @@ use Rattle.lxt_format.specs.Sections.{length_allowed, starts_right, ends_right, 
 use Rattle.lxt_format.specs.Names.{names_allowed}
 use Rattle.lxt_format.specs.Geometry.{geometries_allowed, aliases_allowed}
 use Rattle.lxt_format.specs.Times.{position_deltas, time_deltas, positions_of, table_allowed, times_allowed, time_of}
-use Rattle.lxt_format.specs.TimesLaws.{sums_apart, positions_never_fall, length_position_deltas, Decides, entry_0_decides, decided, decider}
+use Rattle.lxt_format.proofs.TimesLaws.{sums_apart, positions_never_fall, length_position_deltas, Decides, entry_0_decides, decided, decider}
 use Rattle.lxt_format.specs.Reals.{real_test_allowed}
 use Rattle.lxt_format.specs.Judge.{tables_refusal_by, tables_refusal, file_refusal}
 use Rattle.lxt_format.specs.RisingTimes.{rising_table_allowed, rising_times_allowed, rising_tables_refusal, rising_refusal, Gives, reached, before_all, KeepsRefusals, KeepsTimes, ReadsTimes, KeepsAnswers}

@@ -1,0 +1,12 @@
+pub mod GeometryLaws
+pub mod TimesLaws
+pub mod BiasedTimesLaws
+pub mod ChangesLaws
+pub mod JudgeLaws
+pub mod RisingTimesLaws
+pub mod WalkLaws
+pub mod ShortTimesLaws
+pub mod ValuesLaws
+pub mod VisitedLaws
+pub mod LentTextLaws
+pub mod ValueColumnLaws
