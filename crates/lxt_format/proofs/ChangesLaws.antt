@@ -5,8 +5,7 @@ use Rattle.std.proofs.Math.Decide.{ℕ_discrete}
 use borrow.Author.Tests.{eq-eqb, ne_eqb, leb-true, ltb-true}
 use Rattle.lxt_format.specs.Basics.{all, first_fault}
 use Rattle.lxt_format.specs.BasicsLaws.{and_both, kept, neither, fault_next, fault_here}
-use Rattle.lxt_format.specs.Bytes.{byte_at}
-use Rattle.lxt_format.specs.Changes.{Signal, command_of, delta_size, data_at, previous_of, command_allowed, data_allowed, clean_at, change_end, previous_allowed, fault_at, chain_within, chain_of, chain_fault, chain_clean, Sound}
+use Rattle.lxt_format.specs.Changes.{Signal, delta_size, data_at, previous_of, clean_at, change_end, fault_at, chain_within, chain_of, chain_fault, chain_clean, Sound}
 
 -- ---- the previous change
 

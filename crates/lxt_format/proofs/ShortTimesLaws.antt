@@ -1,8 +1,8 @@
 -- What a file keeps that has times of 32 bits alone: the proof of the claim of ShortTimes.
-use Prim.Native.Nat.{ℕ, zero, suc, ◌+◌, ◌*◌, ◌≤◌, ◌<◌, max}
-use Rattle.std.specs.Prelude.{◌≡◌, Bool, true, false, not, ◌&&◌, ◌||◌, get_or, drop, ℤ, pos, ◌+ℤ◌, ltb, leb, eqb, if◌then◌else◌}
+use Prim.Native.Nat.{ℕ, zero, suc, ◌+◌, ◌*◌, ◌≤◌, ◌<◌}
+use Rattle.std.specs.Prelude.{◌≡◌, Bool, true, false, ◌&&◌, get_or, drop, pos, ◌+ℤ◌, leb, eqb}
 use Rattle.std.proofs.Math.Path.{refl}
-use Rattle.std.proofs.Common.{sym, ◌∙◌, ap, le-leb, lt-ltb}
+use Rattle.std.proofs.Common.{sym, le-leb, lt-ltb}
 use Rattle.std.proofs.Math.Bool.{and-false, and-true, or-false}
 use mathlib.Core.List.{List, [], ◌∷◌, map}
 use Rattle.std.specs.Int.Signed.{le_z, non_neg}
@@ -13,7 +13,7 @@ use Rattle.lxt_format.specs.Basics.{◌unless◌, ◌or_else◌, range, all}
 use Rattle.lxt_format.specs.BasicsLaws.{on_test}
 use Rattle.lxt_format.specs.Bytes.{number_at, u32_at, numbers_at, signed}
 use Rattle.lxt_format.specs.BytesLaws.{AreBytes, u32_lt}
-use Rattle.lxt_format.specs.Sections.{length_allowed, starts_right, ends_right, listing_of, nothing_compressed, section_of, present, end_of, facility_count, wide_times, times_at, time_count, times_once, sections_present, inside, body_size, body_inside, bodies_inside}
+use Rattle.lxt_format.specs.Sections.{length_allowed, starts_right, ends_right, listing_of, nothing_compressed, section_of, present, wide_times, times_at, time_count, times_once, sections_present, body_size, body_inside, bodies_inside}
 use Rattle.lxt_format.specs.Times.{time_of_bytes, first_time, last_time, positions_at, position_deltas, time_delta_bytes, time_deltas, sums_by, positions_of, times_of, in_range, table_allowed, times_allowed, time_from, time_of}
 use Rattle.lxt_format.specs.BiasedTimes.{bias}
 use Rattle.lxt_format.specs.Values.{latest_at}

@@ -1,6 +1,6 @@
 -- Laws of the time table: running sums, and which entry gives the time of a change.
-use Prim.Native.Nat.{ℕ, zero, suc, ◌+◌, ◌*◌, ◌≤◌, ◌<◌}
-use Rattle.std.specs.Prelude.{◌≡◌, true, length, drop, ℤ, pos, leb}
+use Prim.Native.Nat.{ℕ, zero, suc, ◌+◌, ◌≤◌, ◌<◌}
+use Rattle.std.specs.Prelude.{◌≡◌, true, length, drop, pos, leb}
 use Rattle.std.proofs.Math.Path.{refl}
 use Rattle.std.proofs.Common.{◌∙◌, ap, arith, le-leb, leb-true}
 use mathlib.Core.List.{List, [], ◌∷◌}

@@ -1,5 +1,5 @@
 -- The changes of a chain without a fault: each is sound, and so is the latest at a time. The chain of a facility that is not refused is one.
-use Prim.Native.Nat.{ℕ, ◌<◌, max}
+use Prim.Native.Nat.{ℕ, max}
 use Rattle.std.specs.Prelude.{◌≡◌, refl, ℤ, ltb, eqb}
 use Rattle.std.proofs.Common.{◌∙◌, lit<, eqb-true, ltb-true}
 use Rattle.std.proofs.Math.Bool.{true}

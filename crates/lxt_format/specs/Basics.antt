@@ -3,7 +3,6 @@ use Rattle.std.specs.Prelude.{ℕ, zero, suc, ◌+◌, Bool, true, false, ◌&&�
 
 infixr 2 ◌or_else◌
 infix 3 ◌unless◌
-
 -- ---- refusals: a number, 0 where nothing is refused
 
 -- the refusal k, except where a rule is kept

@@ -1,5 +1,5 @@
 -- Laws of names.
-use Rattle.std.specs.Prelude.{ℕ, zero, suc, ◌≤◌, Bool, ◌&&◌, List, [], ◌++◌, length, take, drop, ltb, leb}
+use Rattle.std.specs.Prelude.{ℕ, zero, suc, ◌≤◌, Bool, ◌&&◌, List, ◌++◌, length, take, drop, ltb, leb}
 use Rattle.std.proofs.Common.{zero-le, leb-true}
 use Rattle.std.proofs.Math.Option.{Option, none, some}
 use Rattle.lxt_format.specs.Limits.{longest_name}

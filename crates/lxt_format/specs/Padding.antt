@@ -1,11 +1,11 @@
 -- Paper 02, Ask 6: what is accepted, and what judging and reading a change say of its padding.
-use Rattle.std.specs.Prelude.{ℕ, ◌+◌, ◌-◌, ◌≡◌, refl, Bool, true, false, List, [], ◌∷◌, ◌++◌, length, set, replicate, pos}
+use Rattle.std.specs.Prelude.{ℕ, ◌+◌, ◌-◌, refl, Bool, true, false, List, [], ◌∷◌, ◌++◌, length, set, replicate, pos}
 use Rattle.lxt_format.specs.Basics.{Answer, given, refused}
 use Rattle.lxt_format.specs.Judge.{file_refusal, judge}
 use Rattle.lxt_format.specs.Answers.{Timed, bits_of}
 use Rattle.lxt_format.specs.Questions.{change_asked, change_buffer, value_buffer, start_record, carry_asked, carry_output}
 use Rattle.lxt_format.specs.Everything.{everything}
-use Rattle.lxt_format.specs.Traces.{spelled, with32, mixed, command5, delta5, data5, delta8, data8, data29, sync_of_mixed, msb_of_mixed, flags_of_mixed}
+use Rattle.lxt_format.specs.Traces.{spelled, with32, mixed, data5, data8, data29, sync_of_mixed, msb_of_mixed, flags_of_mixed}
 use Rattle.lxt_format.specs.Examples.{Row, row, Holds, pair}
 use Rattle.lxt_format.specs.declared.Summary.{Summary}
 use Rattle.lxt_format.specs.declared.Pair.{Pair}

@@ -1,5 +1,5 @@
 -- The traces that the examples are computed on, and where in them stands what the examples change.
-use Rattle.std.specs.Prelude.{ℕ, ◌+◌, ◌*◌, List, [], ◌++◌, take, drop, replicate}
+use Rattle.std.specs.Prelude.{ℕ, ◌+◌, ◌*◌, List, ◌++◌, take, drop, replicate}
 use Rattle.lxt_format.specs.Changes.{digits}
 
 -- k bytes, written as one number
