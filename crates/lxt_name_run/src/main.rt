@@ -3,9 +3,27 @@
 // the whole buffer is as `names::length_of` leaves it. At last the same with one byte too little room.
 #![tactic(auto)]
 
-use libc::{STDIN_FILENO, STDOUT_FILENO};
+ghost use Rattle.std.specs.Prelude.{◌≤◌, length, IfOk};
+
 use lxt_format::{File, NameCursor, NumberAnswer, Summary};
 use lxt_reader::names;
+use std::io;
+use std::io::Read;
+
+// Reads until the buffer is full or the input ends.
+fn read_full(from: &mut impl Read, input: &mut [u8]) -> io::Result<usize>
+    ensures { IfOk result (λ size. size ≤ length input.new) }
+{
+    let mut size = 0;
+    while size < input.len() {
+        let more = from.read(&mut input[size..])?;
+        if more == 0 {
+            break;
+        }
+        size += more;
+    }
+    Ok(size)
+}
 
 // Two buffers hold the same bytes.
 fn same(a: &[u8], b: &[u8]) -> bool {
@@ -23,48 +41,56 @@ fn same(a: &[u8], b: &[u8]) -> bool {
 }
 
 // Asks both ways, each with a buffer of its own: whether the question was answered.
-fn ask(file: &[u8], facility: u32, one: &mut [u8], other: &mut [u8]) -> bool {
+fn ask(
+    rt: &impl Print,
+    file: &[u8],
+    facility: u32,
+    one: &mut [u8],
+    other: &mut [u8],
+) -> io::Result<bool> {
     let answer = names::length_of(file, facility, one);
     let part = names::name_of(file, facility, other);
-    io::write_all(STDOUT_FILENO, part);
+    rt.write_all(part)?;
     if same(one, other) {
-        io::write_all(STDOUT_FILENO, b": alike\n");
+        rt.write_all(b": alike\n")?;
     } else {
-        io::write_all(STDOUT_FILENO, b": DIFFERENT\n");
+        rt.write_all(b": DIFFERENT\n")?;
     }
     match answer {
-        NumberAnswer::Number(_) => true,
-        NumberAnswer::Refused(_) => false,
+        NumberAnswer::Number(_) => Ok(true),
+        NumberAnswer::Refused(_) => Ok(false),
     }
 }
 
 // Buffers of A5 hex, with three bytes more than a name needs.
-fn ask_with_room(file: &[u8], facility: u32) -> bool {
+fn ask_with_room(rt: &impl Print, file: &[u8], facility: u32) -> io::Result<bool> {
     let mut one = [0xa5u8; NameCursor::LONGEST + 3];
     let mut other = [0xa5u8; NameCursor::LONGEST + 3];
-    ask(file, facility, &mut one, &mut other)
+    ask(rt, file, facility, &mut one, &mut other)
 }
 
 // Buffers with one byte too few.
-fn ask_without_room(file: &[u8]) -> bool {
+fn ask_without_room(rt: &impl Print, file: &[u8]) -> io::Result<bool> {
     let mut one = [0xa5u8; NameCursor::LONGEST - 1];
     let mut other = [0xa5u8; NameCursor::LONGEST - 1];
-    ask(file, 0, &mut one, &mut other)
+    ask(rt, file, 0, &mut one, &mut other)
 }
 
-fn ask_all(file: &[u8]) {
+fn ask_all(rt: &impl Print, file: &[u8]) -> io::Result<()> {
     let mut f = 0;
     while f <= Summary::MOST_FACILITIES {
-        if !ask_with_room(file, f) {
-            return;
+        if !ask_with_room(rt, file, f)? {
+            return Ok(());
         }
         f += 1;
     }
+    Ok(())
 }
 
-fn main() {
+fn main(rt: HostRuntime) -> io::Result<()> {
     let mut input = [0u8; File::LONGEST_PRINTED];
-    let n = io::read_full(STDIN_FILENO, &mut input);
-    ask_all(&input[..n]);
-    ask_without_room(&input[..n]);
+    let n = read_full(&mut rt.stdin(), &mut input)?;
+    ask_all(&rt, &input[..n])?;
+    ask_without_room(&rt, &input[..n])?;
+    Ok(())
 }

@@ -2,57 +2,82 @@
 // each facility and for the number after the last, at the times 19 and 20: which of the two it is, and the part.
 #![tactic(auto)]
 
-use libc::{STDIN_FILENO, STDOUT_FILENO};
+ghost use Rattle.std.specs.Prelude.{◌≤◌, length, IfOk};
+
 use lxt_format::{File, Summary, TextAnswer};
 use lxt_reader::texts;
+use std::io;
+use std::io::Read;
+
+// Reads until the buffer is full or the input ends.
+fn read_full(from: &mut impl Read, input: &mut [u8]) -> io::Result<usize>
+    ensures { IfOk result (λ size. size ≤ length input.new) }
+{
+    let mut size = 0;
+    while size < input.len() {
+        let more = from.read(&mut input[size..])?;
+        if more == 0 {
+            break;
+        }
+        size += more;
+    }
+    Ok(size)
+}
 
 // Which it is: whether the question was answered.
-fn tell(place: TextAnswer) -> bool {
+fn tell(rt: &impl Print, place: TextAnswer) -> io::Result<bool> {
     match place {
         TextAnswer::File {
             start: _,
             length: _,
         } => {
-            io::write_all(STDOUT_FILENO, b"in the file: ");
-            true
+            rt.write_all(b"in the file: ")?;
+            Ok(true)
         }
         TextAnswer::Lent { length: _ } => {
-            io::write_all(STDOUT_FILENO, b"lent: ");
-            true
+            rt.write_all(b"lent: ")?;
+            Ok(true)
         }
         TextAnswer::OtherKind => {
-            io::write_all(STDOUT_FILENO, b"another kind: ");
-            true
+            rt.write_all(b"another kind: ")?;
+            Ok(true)
         }
         TextAnswer::Refused(_) => {
-            io::write_all(STDOUT_FILENO, b"refused: ");
-            false
+            rt.write_all(b"refused: ")?;
+            Ok(false)
         }
     }
 }
 
-fn ask<'a>(file: &'a [u8], facility: u32, time: i64, text: &'a [u8]) -> bool {
-    let answered = tell(texts::place_at(file, facility, time, text));
+fn ask<'a>(
+    rt: &impl Print,
+    file: &'a [u8],
+    facility: u32,
+    time: i64,
+    text: &'a [u8],
+) -> io::Result<bool> {
+    let answered = tell(rt, texts::place_at(file, facility, time, text))?;
     let part = texts::text_at(file, facility, time, text);
-    io::write_all(STDOUT_FILENO, part);
-    io::write_all(STDOUT_FILENO, b"\n");
-    answered
+    rt.write_all(part)?;
+    rt.write_all(b"\n")?;
+    Ok(answered)
 }
 
-fn ask_all<'a>(file: &'a [u8], text: &'a [u8]) {
+fn ask_all<'a>(rt: &impl Print, file: &'a [u8], text: &'a [u8]) -> io::Result<()> {
     let mut f = 0;
     while f <= Summary::MOST_FACILITIES {
-        ask(file, f, 19, text);
-        if !ask(file, f, 20, text) {
-            return;
+        ask(rt, file, f, 19, text)?;
+        if !ask(rt, file, f, 20, text)? {
+            return Ok(());
         }
         f += 1;
     }
+    Ok(())
 }
 
-fn main() {
+fn main(rt: HostRuntime) -> io::Result<()> {
     let mut input = [0u8; File::LONGEST_PRINTED];
-    let n = io::read_full(STDIN_FILENO, &mut input);
+    let n = read_full(&mut rt.stdin(), &mut input)?;
     let text = [b'n', b'o', b'n', b'e'];
-    ask_all(&input[..n], &text);
+    ask_all(&rt, &input[..n], &text)
 }
