@@ -1,5 +1,5 @@
-//! Links the archive of proved functions, which `rt staticlib lxt_c` writes. `LXT_ARCHIVE_DIR` is the
-//! folder that it lies in, where that is not the repository's `target/staticlib`.
+//! Links the archive of proved functions, which `rt lib` in `crates/lxt_c` writes. `LXT_ARCHIVE_DIR` is the
+//! folder that it lies in, where that is not `crates/lxt_c/out`.
 
 use std::env;
 use std::path::{Path, PathBuf};
@@ -9,12 +9,12 @@ fn main() {
     let manifest = env::var("CARGO_MANIFEST_DIR").expect("cargo sets the manifest's folder");
     let archives = match env::var_os("LXT_ARCHIVE_DIR") {
         Some(folder) => PathBuf::from(folder),
-        None => Path::new(&manifest).join("../../target/staticlib"),
+        None => Path::new(&manifest).join("../../crates/lxt_c/out"),
     };
     let archive = archives.join("liblxt_c.a");
     assert!(
         archive.is_file(),
-        "there is no {}: run `rt staticlib lxt_c` first, or say by LXT_ARCHIVE_DIR in which folder it is",
+        "there is no {}: run `rt lib` in crates/lxt_c first, or say by LXT_ARCHIVE_DIR in which folder it is",
         archive.display()
     );
     let archives = archives.canonicalize().expect("the archive's folder");

@@ -1,5 +1,5 @@
 //! The small program, as it is built, against expected outputs and the independent reader's dump.
-//! `rt check lxt_dump` builds it.
+//! `rt run` in `crates/lxt_dump` builds it.
 
 use std::collections::BTreeMap;
 use std::fs;
@@ -29,14 +29,14 @@ fn repository() -> PathBuf {
 
 /// What the program prints for an input.
 fn printed(input: &[u8]) -> Vec<u8> {
-    let program = repository().join("target/bin/lxt_dump");
+    let program = repository().join("crates/lxt_dump/out/lxt_dump");
     let mut child = Command::new(&program)
         .stdin(Stdio::piped())
         .stdout(Stdio::piped())
         .spawn()
         .unwrap_or_else(|error| {
             panic!(
-                "{}: {error}: run `rt check lxt_dump` first",
+                "{}: {error}: run `rt run` in crates/lxt_dump first",
                 program.display()
             )
         });

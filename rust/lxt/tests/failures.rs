@@ -1,6 +1,6 @@
 //! The small program where its input cannot be read or its output cannot be written: nothing is written
 //! after a write that failed, so that `done N` stands only under N whole lines, and a failed read is no
-//! empty file. `rt check lxt_dump` builds the program.
+//! empty file. `rt run` in `crates/lxt_dump` builds the program.
 
 use std::fs::{self, File};
 use std::io::{Read, Write};
@@ -23,12 +23,12 @@ fn expected() -> Vec<u8> {
 }
 
 fn run(input: Stdio, output: Stdio) -> Output {
-    Command::new(repository().join("target/bin/lxt_dump"))
+    Command::new(repository().join("crates/lxt_dump/out/lxt_dump"))
         .stdin(input)
         .stdout(output)
         .stderr(Stdio::piped())
         .spawn()
-        .expect("the program: `rt check lxt_dump` builds it")
+        .expect("the program: `rt run` in crates/lxt_dump builds it")
         .wait_with_output()
         .expect("the program's end")
 }

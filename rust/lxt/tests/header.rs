@@ -315,7 +315,7 @@ fn repository() -> PathBuf {
 /// The archive of proved functions, in the folder that the crate's build script links it from.
 fn archive() -> PathBuf {
     let folder = std::env::var_os("LXT_ARCHIVE_DIR").map(PathBuf::from);
-    let folder = folder.unwrap_or_else(|| repository().join("target/staticlib"));
+    let folder = folder.unwrap_or_else(|| repository().join("crates/lxt_c/out"));
     folder.join("liblxt_c.a")
 }
 

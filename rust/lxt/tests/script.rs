@@ -11,6 +11,9 @@ use std::time::{Duration, SystemTime};
 
 use lxt::Refusal;
 
+/// The program, in a folder laid out like the repository.
+const PROGRAM: &str = "crates/lxt_dump/out/lxt_dump";
+
 fn repository() -> PathBuf {
     let above = Path::new(env!("CARGO_MANIFEST_DIR")).join("../..");
     above.canonicalize().expect("the repository")
@@ -183,10 +186,9 @@ impl Copied {
         let copied = Copied { root };
         copied.write("crates/lxt_dump/src/main.rt", "");
         // Fails where another call is under way; takes a while; builds the program.
-        let program = repository().join("target/bin/lxt_dump");
+        let program = repository().join(PROGRAM);
         let build = format!(
-            "mkdir busy || exit 1; sleep 0.3; mkdir -p target/bin target/stamp;\n\
-             cp '{}' target/bin/lxt_dump; echo proved > target/stamp/lxt_dump; rmdir busy",
+            "mkdir busy || exit 1; sleep 0.3; mkdir -p out; cp '{}' out/lxt_dump; rmdir busy",
             program.display()
         );
         copied.command(&build);
@@ -199,7 +201,11 @@ impl Copied {
 
     /// What `rt` does after writing down that it was called.
     fn command(&self, body: &str) {
-        let text = format!("#!/bin/sh\necho \"$*\" >> calls\n{body}\n");
+        let calls = self.root.join("calls");
+        let text = format!(
+            "#!/bin/sh\necho \"${{PWD##*/}} $*\" >> '{}'\n{body}\n",
+            calls.display()
+        );
         self.write("commands/rt", &text);
         let rt = self.root.join("commands/rt");
         fs::set_permissions(rt, fs::Permissions::from_mode(0o755)).expect("a mode");
@@ -207,8 +213,8 @@ impl Copied {
 
     /// The program of the folder as a script, newer than the sources.
     fn program(&self, body: &str) {
-        self.write("target/bin/lxt_dump", &format!("#!/bin/sh\n{body}\n"));
-        let program = self.root.join("target/bin/lxt_dump");
+        self.write(PROGRAM, &format!("#!/bin/sh\n{body}\n"));
+        let program = self.root.join(PROGRAM);
         fs::set_permissions(program, fs::Permissions::from_mode(0o755)).expect("a mode");
     }
 
@@ -220,11 +226,11 @@ impl Copied {
         command.stdin(Stdio::null()).output().expect("a run")
     }
 
-    /// How many times `rt` was called, with the right words each time.
+    /// How many times `rt` was called, in the right folder and with the right words each time.
     fn calls(&self) -> usize {
         let calls = fs::read_to_string(self.root.join("calls")).unwrap_or_default();
         assert!(
-            calls.lines().all(|call| call == "check lxt_dump"),
+            calls.lines().all(|call| call == "lxt_dump run"),
             "{calls}"
         );
         calls.lines().count()
@@ -281,15 +287,13 @@ fn a_newer_source_is_built() {
         assert_eq!(copied.calls(), 2 + place);
     }
     // A source that changes while the program is built is newer than it.
-    copied.command("cp target/bin/lxt_dump kept; mv kept target/bin/lxt_dump; touch crates.txt");
-    copied.age("target/bin/lxt_dump", 60);
+    copied.command("cp out/lxt_dump kept; mv kept out/lxt_dump; touch ../../crates.txt");
+    copied.age(PROGRAM, 60);
     for calls in [4, 5] {
         assert_printed(&copied.run("gpsim_blink.lxt"));
         assert_eq!(copied.calls(), calls);
     }
-    // A program whose check did not pass is not run.
-    copied.age("crates.txt", 60);
-    fs::remove_file(copied.root.join("target/stamp/lxt_dump")).expect("a stamp");
+    // A program whose sources do not pass the check is not run.
     copied.command("echo NOT PROVED; exit 1");
     assert_failed(&copied.run("gpsim_blink.lxt"), "NOT PROVED");
 }
