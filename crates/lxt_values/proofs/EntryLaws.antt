@@ -1,21 +1,23 @@
 -- The entries of the time table, one after the other.
 use Prim.Native.Nat.{ℕ, suc, ◌+◌, ◌-◌, ◌*◌, ◌≤◌, ◌<◌}
-use mathlib.Core.Path.{◌≡◌, sym, ◌∙◌, ap}
+use mathlib.Core.Path.{◌≡◌, refl, sym, ◌∙◌, ap}
 use mathlib.Core.Bool.{Bool, true}
 use mathlib.Core.List.{List}
+use lib.IntN.{pos}
 use lib.ListN.{get_or}
 use native.Mathlib.Omega.{arith}
 use native.Mathlib.Decide.{dec_le}
 use borrow.Author.Tests.{ne_eqb}
-use Rattle.lxt_format.specs.Bytes.{number_at, u32_at}
+use Rattle.lxt_format.specs.BasicsLaws.{on_zero}
+use Rattle.lxt_format.specs.Bytes.{number_at, u32_at, numbers_at}
 use Rattle.lxt_format.specs.BytesLaws.{get_d_numbers}
 use Rattle.lxt_format.specs.Sections.{end_of, wide_times, times_at, time_bytes, time_count}
-use Rattle.lxt_format.specs.Times.{positions_at, position_deltas, time_delta_bytes, positions_of, table_allowed, times_allowed, time_of}
+use Rattle.lxt_format.specs.Times.{positions_at, position_deltas, time_delta_bytes, time_deltas, sums_by, positions_of, times_of, table_allowed, times_allowed, time_from, time_of}
 use Rattle.lxt_format.proofs.TimesLaws.{sum_first, sum_next, length_position_deltas, Decides}
-use Rattle.lxt_format.specs.BiasedTimes.{biased, unbiased, biased_bytes, biased_times}
+use Rattle.lxt_format.specs.BiasedTimes.{bias, biased, unbiased, biased_bytes, biased_times}
 use Rattle.lxt_format.proofs.BiasedTimesLaws.{unbiased_biased, time_mag, position_below, entry_fits, biased_first, biased_next, biased_time}
 use Rattle.lxt_values.specs.Times.{Times}
-use Rattle.lxt_values.specs.Entries.{EntryAt, Latest}
+use Rattle.lxt_values.specs.Entries.{EntryAt, Latest, From, Last}
 
 -- an entry above another is not entry 0
 pub above_zero : (a b : ℕ) → a < b → 0 < b
@@ -153,3 +155,45 @@ module _ (s : List ℕ) (times m : ℕ) (wide : Bool) (k : Times s times m wide)
             | no r ↦ w.later j (omega arith) b
           ];
         }
+
+-- ---- where the times of all changes are looked for from
+
+-- a table without entries
+module _ (s : List ℕ) (z : time_count s ≡ 0) where
+  -- gives every change time 0
+  pub no_time : (o : ℕ) → time_of s o ≡ pos 0
+  unfolding time_of times_of time_deltas time_delta_bytes numbers_at sums_by time_from positions_of position_deltas
+  no_time o = rw z
+
+  pub no_entry : (position : ℕ) → Last s 0 position bias
+  no_entry position = record { from = λ o. record { latest = λ h. absurd (omega arith); empty = λ e. (refl, refl) } }
+
+module _ (s : List ℕ) (number position time : ℕ) where
+  -- the last of some
+  pub last_entry : EntryAt s number position time → number + 1 ≡ time_count s → Last s number position time
+  last_entry e q = record {
+    from = λ o. record {
+      latest = λ h. record { here = e; later = λ j a b. absurd (omega arith) };
+      empty = λ z. absurd (omega arith);
+    };
+  }
+
+  -- an entry for a change is one for those below it
+  pub from_lower : (o p : ℕ) → p ≤ o → From s o number position time → From s p number position time
+  from_lower o p h w = record {
+    latest = λ some. let l = w.latest some in record { here = l.here; later = λ j a b. omega (arith, l.later j a b) };
+    empty = w.empty;
+  }
+
+  -- one that is not entry 0 is an entry of the table
+  pub tabled : (o : ℕ) → From s o number position time → 0 < number → Latest s o number position time
+  tabled o w h = on_zero (time_count s) (λ z. absurd (omega (arith, (w.empty z).0))) (λ some. w.latest some)
+
+  pub from_latest : (o : ℕ) → Latest s o number position time → From s o number position time
+  from_latest o l = record { latest = λ h. l; empty = λ z. absurd (omega (arith, l.here.within)) }
+
+  -- entry 0 gives the time where the way down ends, and so does an empty table
+  pub down_ended : (times m : ℕ) (wide : Bool) (k : Times s times m wide) (o : ℕ) → From s o number position time → number ≤ 0 → time ≡ biased (time_of s o)
+  down_ended times m wide k o w h =
+      on_zero (time_count s) (λ z. (w.empty z).1 ∙ rw (no_time s z o))
+      (λ some. down_first s times m wide k (omega (arith, k.count)) o number position time (w.latest some) h)
