@@ -169,14 +169,22 @@ fn a_full_device_is_told() {
 
 // ---- When it builds
 
-/// A folder laid out like the repository, and the script in it.
+/// A folder laid out like the repository, and the script in it. It stands outside the repository, where `rt` would
+/// take its sources for some of the repository's.
 struct Copied {
     root: PathBuf,
 }
 
+impl Drop for Copied {
+    fn drop(&mut self) {
+        let _ = fs::remove_dir_all(&self.root);
+    }
+}
+
 impl Copied {
     fn new(name: &str) -> Self {
-        let root = folder(name);
+        let root = format!("lxt script {} {name}", std::process::id());
+        let root = std::env::temp_dir().join(root);
         for part in ["crates/lxt_dump/src", "docs", "commands"] {
             fs::create_dir_all(root.join(part)).expect("a folder");
         }
@@ -229,10 +237,7 @@ impl Copied {
     /// How many times `rt` was called, in the right folder and with the right words each time.
     fn calls(&self) -> usize {
         let calls = fs::read_to_string(self.root.join("calls")).unwrap_or_default();
-        assert!(
-            calls.lines().all(|call| call == "lxt_dump run"),
-            "{calls}"
-        );
+        assert!(calls.lines().all(|call| call == "lxt_dump run"), "{calls}");
         calls.lines().count()
     }
 
