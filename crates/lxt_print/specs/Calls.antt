@@ -1,4 +1,4 @@
--- What the two calls of `lxt_print::printing` promise, and what any list of calls is to print. The claim is `PrintedTrace`, and `printed-trace` (proofs/Printed) its proof.
+-- What the two calls of `lxt_print::printing` promise, and what any list of calls is to print. The claim is `PrintedTrace`, and `printed_trace` (proofs/Printed) its proof.
 use Rattle.std.specs.Prelude.{ℕ, ◌+◌, ◌*◌, ◌≤◌, min, ◌≡◌, Bool, true, false, ◌||◌, List, [], ◌∷◌, ◌++◌, length, take, drop, leb, eqb}
 use Rattle.lxt_format.specs.Limits.{longest_name, most_facilities, longest_printed}
 use Rattle.lxt_format.specs.Columns.{onto}

@@ -1,6 +1,6 @@
 -- Laws on lists of pairs, and on a copy of a list's first elements over another's.
---     over-zero, over-suc, length_over     a copy of a list's first elements over another's: none copied, one more copied, the length
---     numbers-at, offsets-at, pairs-at     what stands at an index
+--     over_suc, length_over     a copy of a list's first elements over another's: one more copied, the length
+--     numbers_at_lem, offsets_at, pairs_at     what stands at an index
 -- Assumes nothing.
 use mathlib.Core.Path.{◌≡◌, refl, sym, ◌∙◌, ap, subst}
 use Prim.Native.Nat.{ℕ, zero, suc, ◌+◌, ◌<◌, ◌≤◌, ◌^◌, ◌*◌}
