@@ -1,12 +1,12 @@
 #!/usr/bin/env python3
 """Respells the repository's own names of specs/ and proofs/ as the language's style has them.
 
-usage: python3 tools/respell.py [FOLDER]      FOLDER: the top of a checkout, here by default
+usage: python3 tools/respell.py FOLDER      FOLDER: the top of a checkout
 
 Definitions, lemmas, fields and constructors that are declared in crates/*/specs and crates/*/proofs and
 have capitals or dashes within are written in snake case; types with a dash in camel case. A name that a file
-imports from a library keeps its spelling there. Run once, after the port's own script; it says which
-names fall together.
+imports from a library keeps its spelling there. To be run once, on what the port's own script made; it says
+which names fall together.
 """
 import collections
 import os
@@ -154,4 +154,6 @@ def main(root):
 
 
 if __name__ == "__main__":
-    main(sys.argv[1] if len(sys.argv) > 1 else os.path.dirname(os.path.dirname(os.path.abspath(__file__))))
+    if len(sys.argv) != 2:
+        raise SystemExit(__doc__)
+    main(sys.argv[1])

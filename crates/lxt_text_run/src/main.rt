@@ -2,82 +2,74 @@
 // each facility and for the number after the last, at the times 19 and 20: which of the two it is, and the part.
 #![tactic(auto)]
 
-ghost use Rattle.std.specs.Prelude.{◌≤◌, length, IfOk};
+ghost use Rattle.std.specs.Prelude.{◌≤◌, length};
 
 use lxt_format::{File, Summary, TextAnswer};
 use lxt_reader::texts;
-use std::io;
 use std::io::Read;
 
-// Reads until the buffer is full or the input ends.
-fn read_full(from: &mut impl Read, input: &mut [u8]) -> io::Result<usize>
-    ensures { IfOk result (λ size. size ≤ length input.new) }
+// Reads until the buffer is full, the input ends or a read fails.
+fn read_full(from: &mut impl Read, input: &mut [u8]) -> usize
+    ensures { result ≤ length input.new }
 {
     let mut size = 0;
     while size < input.len() {
-        let more = from.read(&mut input[size..])?;
-        if more == 0 {
-            break;
+        match from.read(&mut input[size..]) {
+            Ok(0) => return size,
+            Ok(more) => size += more,
+            Err(_) => return size,
         }
-        size += more;
     }
-    Ok(size)
+    size
 }
 
 // Which it is: whether the question was answered.
-fn tell(rt: &impl Print, place: TextAnswer) -> io::Result<bool> {
+fn tell(rt: &impl Print, place: TextAnswer) -> bool {
     match place {
         TextAnswer::File {
             start: _,
             length: _,
         } => {
-            rt.write_all(b"in the file: ")?;
-            Ok(true)
+            let _ = rt.write_all(b"in the file: ");
+            true
         }
         TextAnswer::Lent { length: _ } => {
-            rt.write_all(b"lent: ")?;
-            Ok(true)
+            let _ = rt.write_all(b"lent: ");
+            true
         }
         TextAnswer::OtherKind => {
-            rt.write_all(b"another kind: ")?;
-            Ok(true)
+            let _ = rt.write_all(b"another kind: ");
+            true
         }
         TextAnswer::Refused(_) => {
-            rt.write_all(b"refused: ")?;
-            Ok(false)
+            let _ = rt.write_all(b"refused: ");
+            false
         }
     }
 }
 
-fn ask<'a>(
-    rt: &impl Print,
-    file: &'a [u8],
-    facility: u32,
-    time: i64,
-    text: &'a [u8],
-) -> io::Result<bool> {
-    let answered = tell(rt, texts::place_at(file, facility, time, text))?;
+fn ask<'a>(rt: &impl Print, file: &'a [u8], facility: u32, time: i64, text: &'a [u8]) -> bool {
+    let answered = tell(rt, texts::place_at(file, facility, time, text));
     let part = texts::text_at(file, facility, time, text);
-    rt.write_all(part)?;
-    rt.write_all(b"\n")?;
-    Ok(answered)
+    let _ = rt.write_all(part);
+    let _ = rt.write_all(b"\n");
+    answered
 }
 
-fn ask_all<'a>(rt: &impl Print, file: &'a [u8], text: &'a [u8]) -> io::Result<()> {
+fn ask_all<'a>(rt: &impl Print, file: &'a [u8], text: &'a [u8]) {
     let mut f = 0;
     while f <= Summary::MOST_FACILITIES {
-        ask(rt, file, f, 19, text)?;
-        if !ask(rt, file, f, 20, text)? {
-            return Ok(());
+        ask(rt, file, f, 19, text);
+        if !ask(rt, file, f, 20, text) {
+            return;
         }
         f += 1;
     }
-    Ok(())
 }
 
-fn main(rt: HostRuntime) -> io::Result<()> {
+fn main(rt: HostRuntime) {
     let mut input = [0u8; File::LONGEST_PRINTED];
-    let n = read_full(&mut rt.stdin(), &mut input)?;
+    let n = read_full(&mut rt.stdin(), &mut input);
     let text = [b'n', b'o', b'n', b'e'];
-    ask_all(&rt, &input[..n], &text)
+    ask_all(&rt, &input[..n], &text);
 }

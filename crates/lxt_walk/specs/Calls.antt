@@ -22,7 +22,7 @@ Carries s pairs size buffer answer output left =
     (carry_says answer ≡ carry_asked s pairs size (length buffer))
     × ((output ≡ carry_output s pairs size buffer) × (left ≡ carry_record s pairs size (length buffer)))
 
--- What `lxt_record::changes` promises: its answer, and the rows, the bits and the record after it
+-- What carrying on by rows is to promise, when there is such a call: its answer, and the rows, the bits and the record after it
 abbrev pub CarriesRows : (s : List ℕ) (pairs : List Pair) (size : ℕ) (rows : List (List ℕ)) (bits : List ℕ) (answer : CarryAnswer) (rows' : List (List ℕ)) (bits' : List ℕ) (left : List Pair) → Type 0
 CarriesRows s pairs size rows bits answer rows' bits' left =
     (carry_says answer ≡ changes_asked s pairs size (length rows) (length bits))

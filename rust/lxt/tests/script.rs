@@ -14,6 +14,9 @@ use lxt::Refusal;
 /// The program, in a folder laid out like the repository.
 const PROGRAM: &str = "crates/lxt_dump/out/lxt_dump";
 
+/// Says that the program beside it is proved.
+const STAMP: &str = "crates/lxt_dump/out/lxt_dump.stamp";
+
 fn repository() -> PathBuf {
     let above = Path::new(env!("CARGO_MANIFEST_DIR")).join("../..");
     above.canonicalize().expect("the repository")
@@ -196,7 +199,8 @@ impl Copied {
         // Fails where another call is under way; takes a while; builds the program.
         let program = repository().join(PROGRAM);
         let build = format!(
-            "mkdir busy || exit 1; sleep 0.3; mkdir -p out; cp '{}' out/lxt_dump; rmdir busy",
+            "mkdir busy || exit 1; sleep 0.3; mkdir -p out;\n\
+             cp '{}' out/lxt_dump; echo proved > out/lxt_dump.stamp; rmdir busy",
             program.display()
         );
         copied.command(&build);
@@ -298,7 +302,9 @@ fn a_newer_source_is_built() {
         assert_printed(&copied.run("gpsim_blink.lxt"));
         assert_eq!(copied.calls(), calls);
     }
-    // A program whose sources do not pass the check is not run.
+    // A program whose check did not pass is not run.
+    copied.age("crates.txt", 60);
+    fs::remove_file(copied.root.join(STAMP)).expect("a stamp");
     copied.command("echo NOT PROVED; exit 1");
     assert_failed(&copied.run("gpsim_blink.lxt"), "NOT PROVED");
 }
