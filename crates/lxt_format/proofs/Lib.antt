@@ -10,3 +10,4 @@ pub mod ValuesLaws
 pub mod VisitedLaws
 pub mod LentTextLaws
 pub mod ValueColumnLaws
+pub mod AnswerLaws

@@ -6,7 +6,7 @@ use Rattle.std.proofs.Common.{sym, ap, arith, eq-eqb, ne_eqb}
 use Rattle.std.proofs.Math.Bool.{true}
 use Rattle.std.proofs.lemmas.Bool.{false≢true}
 use Rattle.std.proofs.Math.Decide.{ℕ_discrete}
-use Rattle.lxt_format.specs.Basics.{◌unless◌, ◌or_else◌, given, refused, answer, range, all, any, first_fault}
+use Rattle.lxt_format.specs.Basics.{◌unless◌, ◌or_else◌, Answer, given, refused, answer, range, all, any, first_fault}
 
 -- ---- cases
 
@@ -70,6 +70,47 @@ answer_given r a e = rw e
 
 pub answer_refused : {A : Type 0} (r : ℕ) (a : A) → (r ≡ 0 → ⊥) → answer r a ≡ refused r
 answer_refused r a n = simp (ne_eqb r 0 n)
+
+-- and back: what is known of a refusal where an answer was given, and where it was refused
+abbrev is_one : {A : Type 0} → Answer A → Bool
+is_one (given a) = true
+is_one (refused n) = false
+
+abbrev one_or : {A : Type 0} → A → Answer A → A
+one_or d (given a) = a
+one_or d (refused n) = d
+
+abbrev number_in : {A : Type 0} → Answer A → ℕ
+number_in (given a) = 0
+number_in (refused n) = n
+
+pub was_given : {A : Type 0} (k : ℕ) (a b : A) → given b ≡ answer k a → (k ≡ 0) × (b ≡ a)
+was_given {A} k a b h =
+    elim (ℕ_discrete k 0) [
+      | yes e ↦ (let g : given b ≡ given a = rw e at h in (e, ap (λ (r : Answer A). one_or b r) g))
+      | no n ↦ (let g : given b ≡ refused k = simp (ne_eqb k 0 n) at h in absurd (false≢true (sym (ap (λ (r : Answer A). is_one r) g))))
+    ]
+
+pub was_refused : {A : Type 0} (k n : ℕ) (a : A) → refused n ≡ answer k a → (n ≡ k) × (k ≡ 0 → ⊥)
+was_refused {A} k n a h =
+    elim (ℕ_discrete k 0) [
+      | yes e ↦ (let g : refused n ≡ given a = rw e at h in absurd (false≢true (ap (λ (r : Answer A). is_one r) g)))
+      | no m ↦ (let g : refused n ≡ refused k = simp (ne_eqb k 0 m) at h in (ap (λ (r : Answer A). number_in r) g, m))
+    ]
+
+-- a refusal is passed on by the checks that begin with it
+pub passed_on : {A B : Type 0} (k rest n : ℕ) (a : A) (b : B) → refused n ≡ answer k a → refused n ≡ answer (k or_else rest) b
+passed_on k rest n a b h =
+    let w = was_refused k n a h in
+    rw w.0 (simp (ne_eqb k 0 w.1))
+
+-- and where they begin with none, those that follow decide
+pub goes_on : {B : Type 0} (k rest : ℕ) (r : Answer B) (b : B) → k ≡ 0 → r ≡ answer rest b → r ≡ answer (k or_else rest) b
+goes_on k rest r b z h = rw z h
+
+-- a refusal of our own
+pub refuses : {A : Type 0} (k n : ℕ) (a : A) → k ≡ n → (n ≡ 0 → ⊥) → refused n ≡ answer k a
+refuses k n a e m = rw e (simp (ne_eqb n 0 m))
 
 -- ---- ranges
 

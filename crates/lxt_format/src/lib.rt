@@ -5,6 +5,10 @@
 ghost use Rattle.std.specs.Prelude.{◌≡◌, ◌&&◌, ◌-◌, leb};
 ghost use Rattle.lxt_format.specs.Limits.{shortest_file, longest_file, most_facilities, longest_name, widest_facility, longest_column};
 
+pub mod refusal;
+
+pub use crate::refusal::Refusal;
+
 // A file, by its length in bytes.
 #[derive(Clone, Copy)]
 pub struct File {
@@ -136,25 +140,6 @@ impl Summary {
     }
 }
 
-#[derive(Clone, Copy)]
-pub enum Judgement {
-    Accepted(Summary),
-    Refused(u8),
-}
-
-#[derive(Clone, Copy)]
-pub enum FactsAnswer {
-    Known(Facts),
-    Refused(u8),
-}
-
-// A facility's root, a name's length, or the change before a change (0 where there is none).
-#[derive(Clone, Copy)]
-pub enum NumberAnswer {
-    Number(u32),
-    Refused(u8),
-}
-
 // A value: that of a change, or that at a time.
 #[derive(Clone, Copy)]
 pub enum Value {
@@ -165,11 +150,9 @@ pub enum Value {
     // A part of the file, without the zero.
     Text { start: u32, length: u32 },
     NotDriven,
-    Refused(u8),
 }
 
-// A change's time and value, and whether its unused bits are 0. Where the value says "refused" these
-// are 0 and no.
+// A change's time and value, and whether its unused bits are 0.
 #[derive(Clone, Copy)]
 pub struct TimedValue {
     pub time: i64,
@@ -178,7 +161,7 @@ pub struct TimedValue {
 }
 
 // The value at a time, and how many changes were visited to find it: those of the root with a later time,
-// and the change answered, if any. Where the value says "refused" this is 0.
+// and the change answered, if any.
 #[derive(Clone, Copy)]
 pub struct Lookup {
     pub value: Value,
@@ -188,14 +171,13 @@ pub struct Lookup {
 // The text of a facility at a time, with a text that the caller lends where it has no change up to then: where it
 // stands.
 #[derive(Clone, Copy)]
-pub enum TextAnswer {
+pub enum TextPlace {
     // A part of the file, without the zero.
     File { start: u32, length: u32 },
     // The whole lent text.
     Lent { length: usize },
     // The values of the facility are no texts.
     OtherKind,
-    Refused(u8),
 }
 
 // The facility numbers that a column is asked for, by how many they are.
@@ -215,13 +197,6 @@ impl ColumnList {
     }
 }
 
-// A column: how many changes were visited for all of its items together.
-#[derive(Clone, Copy)]
-pub enum ColumnAnswer {
-    Given { visited: u64 },
-    Refused(u8),
-}
-
 // A facility's number and an offset: a pair of the walk record, whose offset is the pending one, or
 // a pair that a walk hands out.
 #[repr(C)]
@@ -231,16 +206,9 @@ pub struct Pair {
     pub offset: u32,
 }
 
-// Starting a walk.
-#[derive(Clone, Copy)]
-pub enum StartAnswer {
-    Started,
-    Refused(u8),
-}
-
 // Carrying on: how many pairs were handed out, and whether all pending offsets are 0.
 #[derive(Clone, Copy)]
-pub enum CarryAnswer {
-    Handed { count: u32, done: bool },
-    Refused(u8),
+pub struct Handed {
+    pub count: u32,
+    pub done: bool,
 }

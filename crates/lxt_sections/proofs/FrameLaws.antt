@@ -6,6 +6,7 @@ use mathlib.Core.List.{List}
 use lib.ListN.{length}
 use lib.Dec.{leb, eqb}
 use borrow.Author.Tests.{leb-true, not-true, not-false}
+use Rattle.lxt_format.specs.Basics.{given, refused, answer}
 use Rattle.lxt_format.specs.BasicsLaws.{and_both}
 use Rattle.lxt_format.specs.Bytes.{byte_at, u16_at}
 use Rattle.lxt_format.specs.Sections.{length_allowed, starts_right, ends_right}
@@ -17,7 +18,7 @@ module _ (s : List ℕ) where
   starts v e = rw e
 
   module _ (a : Bool) (ea : a ≡ (leb 6 (length s) && leb (length s) 16777216)) where
-    pub outside : a ≡ false → 1 ≡ frame_refusal s
+    pub outside : a ≡ false → refused 1 ≡ answer (frame_refusal s) (tt {0})
     unfolding frame_refusal length_allowed
     outside h = rw (← ea, h)
 
@@ -25,16 +26,16 @@ module _ (s : List ℕ) where
     six h = leb-true _ _ (and_both _ _ (sym ea ∙ h)).0
 
     module _ (ha : a ≡ true) (b : Bool) (eb : b ≡ starts_right s) where
-      pub wrong_start : b ≡ false → 2 ≡ frame_refusal s
+      pub wrong_start : b ≡ false → refused 2 ≡ answer (frame_refusal s) (tt {0})
       unfolding frame_refusal length_allowed
       wrong_start h = rw (← ea, ha, ← eb, h)
 
       module _ (hb : b ≡ true) (d : Bool) (ed : d ≡ ends_right s) where
-        pub wrong_end : d ≡ false → 3 ≡ frame_refusal s
+        pub wrong_end : d ≡ false → refused 3 ≡ answer (frame_refusal s) (tt {0})
         unfolding frame_refusal length_allowed
         wrong_end h = rw (← ea, ha, ← eb, hb, ← ed, h)
 
-        pub framed : d ≡ true → 0 ≡ frame_refusal s
+        pub framed : d ≡ true → given (tt {0}) ≡ answer (frame_refusal s) tt
         unfolding frame_refusal length_allowed
         framed h = rw (← ea, ha, ← eb, hb, ← ed, h)
 

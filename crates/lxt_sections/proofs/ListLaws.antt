@@ -2,6 +2,7 @@
 use Prim.Native.Nat.{ℕ, zero, suc, ◌+◌, ◌-◌, ◌≤◌, ◌<◌}
 use mathlib.Core.Path.{◌≡◌, refl, sym, ◌∙◌, ap, subst}
 use mathlib.Core.Bool.{true, false}
+use Rattle.std.specs.Prelude.{Some, None}
 use mathlib.Core.List.{List, [], ◌∷◌, map}
 use lib.ListN.{length, set, replicate}
 use lib.Seq.{set_out}
@@ -12,7 +13,6 @@ use Rattle.lxt_format.specs.Bytes.{byte_at, u32_at}
 use Rattle.lxt_format.specs.Sections.{Item, unlisted, listing_of, value_in}
 use Rattle.lxt_format.specs.SectionsLaws.{list_at, listing_at, list_below, list_end, list_cut, list_next}
 use Rattle.lxt_sections.specs.Stage.{table_of, listed_of}
-use Rattle.lxt_sections.specs.declared.Listing.{Listing}
 
 pub put_out : (t : List ℕ) (tag v n : ℕ) → length t ≡ n → n ≤ tag → t ≡ set t tag v
 put_out t tag v n e h = let g : length t ≤ tag = omega arith in sym (set_out t tag v g)
@@ -63,33 +63,32 @@ unfolding table_of range value_in
 begun s p e = record { within = omega arith; met = []; table = refl; whole = rw e (sym (listing_at s)) }
 
 module _ (s : List ℕ) (p : ℕ) (t : List ℕ) (w : Reading s p t) where
-  listed_is : (r : Rattle.lxt_format.specs.Sections.Listing) → list_at s p w.met ≡ r
-      → record { listed = r.listed; table = table_of r.items; end = r.end } ≡ listed_of s
+  none_listed : list_at s p w.met ≡ unlisted → None ≡ listed_of s
   unfolding listed_of
-  listed_is r e = rw (← e, w.whole)
+  none_listed e = let l : (listing_of s).listed ≡ false = rw e at (sym (ap (λ (r : Rattle.lxt_format.specs.Sections.Listing). r.listed) w.whole)) in rw l
 
-  abbrev nothing : Listing
-  nothing = record { listed = false; table = replicate 21 0; end = 0 }
+  pub low : p < 4 → None ≡ listed_of s
+  low h = none_listed (list_below s p w.met h)
 
-  empty : list_at s p w.met ≡ unlisted → nothing ≡ listed_of s
-  unfolding table_of range value_in
-  empty e = listed_is unlisted e
+  module _ (tag : ℕ) (et : tag ≡ byte_at s p) where
+    not_end : (tag ≡ 0 → ⊥) → byte_at s p ≡ 0 → ⊥
+    not_end n z = n (et ∙ z)
 
-  pub low : (r : Listing) → r ≡ nothing → p < 4 → r ≡ listed_of s
-  low r e h = e ∙ empty (list_below s p w.met h)
+    pub cut : 4 ≤ p → (tag ≡ 0 → ⊥) → p < 8 → None ≡ listed_of s
+    cut h n l = none_listed (list_cut s p w.met h (not_end n) l)
 
-  pub cut : (r : Listing) → r ≡ nothing → 4 ≤ p → (byte_at s p ≡ 0 → ⊥) → p < 8 → r ≡ listed_of s
-  cut r e h n l = e ∙ empty (list_cut s p w.met h n l)
+    pub ended : 4 ≤ p → tag ≡ 0 → Some (record { table = t; end = p }) ≡ listed_of s
+    unfolding listed_of
+    ended h e =
+        let r : listing_of s ≡ record { listed = true; items = w.met; end = p } = sym w.whole ∙ list_end s p w.met h (sym et ∙ e) in
+        rw (r, w.table)
 
-  pub ended : 4 ≤ p → byte_at s p ≡ 0 → ◌≡◌ {A = Listing} (record { listed = true; table = t; end = p }) (listed_of s)
-  ended h e = rw w.table (listed_is (record { listed = true; items = w.met; end = p }) (list_end s p w.met h e))
-
-  pub next : 8 ≤ p → (byte_at s p ≡ 0 → ⊥) → (v : ℕ) → v ≡ u32_at s (p - 4) → (u : List ℕ) → u ≡ set t (byte_at s p) v → Reading s (p - 5) u
-  next h n v ev u eu =
-      let l = w.within in
-      record {
-        within = omega arith;
-        met = item (byte_at s p) v ∷ w.met;
-        table = eu ∙ rw w.table (table_put (byte_at s p) v w.met);
-        whole = rw ev (sym (list_next s p w.met n h) ∙ w.whole);
-      }
+    pub next : 8 ≤ p → (tag ≡ 0 → ⊥) → (v : ℕ) → v ≡ u32_at s (p - 4) → (u : List ℕ) → u ≡ set t tag v → Reading s (p - 5) u
+    next h n v ev u eu =
+        let l = w.within in
+        record {
+          within = omega arith;
+          met = item (byte_at s p) v ∷ w.met;
+          table = eu ∙ rw (et, w.table) (table_put (byte_at s p) v w.met);
+          whole = rw ev (sym (list_next s p w.met (not_end n) h) ∙ w.whole);
+        }

@@ -8,38 +8,32 @@ use lib.Dec.{leb, eqb}
 use native.Mathlib.Omega.{arith}
 use native.Mathlib.Decide.{dec_le}
 use borrow.Author.Tests.{eq-eqb, ne_eqb, le-leb, lt-leb, leb-true, eqb-false, not-true}
-use Rattle.lxt_format.specs.Basics.{range, all, any}
-use Rattle.lxt_format.specs.BasicsLaws.{and_both, on_test}
+use Rattle.std.specs.Prelude.{Some, None}
+use Rattle.std.proofs.lemmas.Option.{none-some, same_Some}
+use Rattle.lxt_format.specs.Basics.{Answer, given, refused, answer, range, all, any}
+use Rattle.lxt_format.specs.BasicsLaws.{and_both, on_test, was_given}
 use Rattle.lxt_format.specs.Bytes.{u32_at}
 use Rattle.lxt_format.specs.Sections.{listing_of, section_of, present, end_of, changes_from, facility_count, wide_times, times_at, time_bytes, time_count, times_size, nothing_compressed, times_once, sections_present, inside, body_size, body_inside, bodies_inside, count_allowed}
 use Rattle.lxt_format.specs.SectionsLaws.{end_inside}
-use Rattle.lxt_sections.specs.Stage.{frame_refusal, table_of, listed_of, places_of, wide_in, table_in, Ready, body_in, all_inside, counted_refusal, sections_refusal, refused_with, found, sections_of}
+use Rattle.lxt_sections.specs.Stage.{frame_refusal, table_of, listed_of, placed_by, places_of, wide_in, table_in, Ready, body_in, all_inside, counted_refusal, sections_refusal, sections_of, located}
 use Rattle.lxt_sections.specs.declared.Listing.{Listing}
 use Rattle.lxt_sections.specs.declared.Places.{Places}
 use Rattle.lxt_sections.specs.declared.Sections.{Sections}
 
 -- ---- the places
 
--- they are read off the table of values
-pub placed_is : (s : List ℕ) (l : Listing) → l ≡ listed_of s → (z : Bool) → z ≡ any (λ tag. not (eqb (get_or l.table tag 0) 0)) (range 0x0A 9)
-    → record {
-      listed = l.listed;
-      compressed = z;
-      end = l.end;
-      changes = get_or l.table 1 0;
-      sync = get_or l.table 2 0;
-      names = get_or l.table 3 0;
-      geometry = get_or l.table 4 0;
-      timescale = get_or l.table 5 0;
-      times = get_or l.table 6 0;
-      initial = get_or l.table 7 0;
-      real_test = get_or l.table 8 0;
-      wide_times = get_or l.table 9 0;
-      excluded = get_or l.table 19 0;
-      time_zero = get_or l.table 20 0;
-    } ≡ places_of s
+-- the frame is right where it gave no refusal
+pub framed : (s : List ℕ) {u : Unit {0}} → given u ≡ answer (frame_refusal s) (tt {0}) → frame_refusal s ≡ 0
+framed s {u} h = (was_given (frame_refusal s) (tt {0}) u h).0
+
+-- those that a list says are those of the file
+pub placed_is : (s : List ℕ) (l : Listing) → Some l ≡ listed_of s → ((listing_of s).listed ≡ true) × (placed_by l ≡ places_of s)
 unfolding places_of listed_of table_of range any present section_of end_of changes_from
-placed_is s l e z ez = rw (ez, e)
+placed_is s l e = on_test (listing_of s).listed (λ h. (h, (let g : l ≡ record { table = table_of (listing_of s).items; end = (listing_of s).end } = same_Some l _ (rw h at e) in rw g))) (λ h. absurd (none-some l (sym (rw h at e))))
+
+pub not_listed : (s : List ℕ) → None ≡ listed_of s → (listing_of s).listed ≡ false
+unfolding listed_of
+not_listed s e = on_test (listing_of s).listed (λ h. absurd (none-some _ (rw h at e))) (λ h. h)
 
 -- ---- refusal 8
 
@@ -76,10 +70,6 @@ readable end start size len z e h four l = let i = leb-true (start + size) end (
 
 -- ---- refusals 8 and 9
 
-found_refused : (k : ℕ) (s : List ℕ) → (k ≡ 0 → ⊥) → refused_with k ≡ found k s
-unfolding found
-found_refused k s n = simp (ne_eqb k 0 n)
-
 -- the table of times that counts
 pub table_wide : (p : Places) → (p.wide_times ≡ 0 → ⊥) → p.wide_times ≡ table_in p
 table_wide p n = simp (ne_eqb p.wide_times 0 n)
@@ -107,17 +97,15 @@ module _ (s : List ℕ) (p : Places) (e : p ≡ places_of s) where
 
   -- where bodies do not lie inside
   passes_end : (n size : ℕ) → n ≡ facility_count s → size ≡ times_size (wide_times s) (time_count s) → all_inside p n size ≡ false
-      → (r : Sections) → r ≡ refused_with 8 → r ≡ found (counted_refusal s) s
+      → refused 8 ≡ answer (counted_refusal s) (sections_of s)
   unfolding counted_refusal
-  passes_end n size en es h r q =
-      let g : bodies_inside s ≡ false = sym (all_inside_is s) ∙ (rw (e, en, es) at h) in
-      q ∙ rw g (found_refused 8 s (eqb-false 8 0 refl))
+  passes_end n size en es h = let g : bodies_inside s ≡ false = sym (all_inside_is s) ∙ (rw (e, en, es) at h) in rw g
 
-  pub head_out : (z : Bool) → z ≡ inside p.end p.names 8 → z ≡ false → (p.names ≡ 0 → ⊥) → (r : Sections) → r ≡ refused_with 8 → r ≡ found (counted_refusal s) s
+  pub head_out : (z : Bool) → z ≡ inside p.end p.names 8 → z ≡ false → (p.names ≡ 0 → ⊥) → refused 8 ≡ answer (counted_refusal s) (sections_of s)
   unfolding all_inside
-  head_out z ez h n r q =
+  head_out z ez h n =
       let b = body_out p.end p.names 8 n (sym ez ∙ h) in
-      passes_end (facility_count s) (times_size (wide_times s) (time_count s)) refl refl (simp (b, and-false)) r q
+      passes_end (facility_count s) (times_size (wide_times s) (time_count s)) refl refl (simp (b, and-false))
 
   -- the table of times that counts does not lie inside
   table_out : (size : ℕ) → (table_in p ≡ 0 → ⊥) → inside p.end (table_in p) size ≡ false → (n : ℕ) → all_inside p n size ≡ false
@@ -131,12 +119,12 @@ module _ (s : List ℕ) (p : Places) (e : p ≡ places_of s) where
       out' q = rw q at out
 
   pub times_out : (table : ℕ) → table ≡ table_in p → (head : ℕ) → head ≡ times_size (wide_in p) 0 → (z : Bool) → z ≡ inside p.end table head → z ≡ false
-      → (table_in p ≡ 0 → ⊥) → (r : Sections) → r ≡ refused_with 8 → r ≡ found (counted_refusal s) s
-  times_out table et head eh z ez h there r q =
+      → (table_in p ≡ 0 → ⊥) → refused 8 ≡ answer (counted_refusal s) (sections_of s)
+  times_out table et head eh z ez h there =
       let size : ℕ = times_size (wide_times s) (time_count s) in
       let more : size ≡ head + (4 * time_count s + time_bytes (wide_times s) * time_count s) = more_than_head (wide_times s) (time_count s) ∙ rw (eh, wide_is) in
       let out : inside p.end (table_in p) size ≡ false = rw more (outside_more p.end (table_in p) head _ (rw et at (sym ez ∙ h))) in
-      passes_end (facility_count s) size refl refl (table_out size there out (facility_count s)) r q
+      passes_end (facility_count s) size refl refl (table_out size there out (facility_count s))
 
   module _ (table n m size : ℕ) (et : table ≡ table_in p) (en : n ≡ u32_at s p.names) (em : m ≡ u32_at s table) (es : size ≡ times_size (wide_in p) m) where
     n_is : n ≡ facility_count s
@@ -150,19 +138,18 @@ module _ (s : List ℕ) (p : Places) (e : p ≡ places_of s) where
     size_is : size ≡ times_size (wide_times s) (time_count s)
     size_is = es ∙ rw (wide_is, m_is)
 
-    pub bodies_out : (z : Bool) → z ≡ all_inside p n size → z ≡ false → (r : Sections) → r ≡ refused_with 8 → r ≡ found (counted_refusal s) s
-    bodies_out z ez h r q = passes_end n size n_is size_is (sym ez ∙ h) r q
+    pub bodies_out : (z : Bool) → z ≡ all_inside p n size → z ≡ false → refused 8 ≡ answer (counted_refusal s) (sections_of s)
+    bodies_out z ez h = passes_end n size n_is size_is (sym ez ∙ h)
 
     module _ (z : Bool) (ez : z ≡ all_inside p n size) (hz : z ≡ true) (w : Bool) (ew : w ≡ leb n 4096) where
       all_in : bodies_inside s ≡ true
       all_in = sym (all_inside_is s) ∙ rw (← e, ← n_is, ← size_is) (sym ez ∙ hz)
 
-      pub too_many : w ≡ false → (r : Sections) → r ≡ refused_with 9 → r ≡ found (counted_refusal s) s
+      pub too_many : w ≡ false → refused 9 ≡ answer (counted_refusal s) (sections_of s)
       unfolding counted_refusal count_allowed
-      too_many h r q = q ∙ (let g : leb (facility_count s) 4096 ≡ false = rw n_is at (sym ew ∙ h) in rw (all_in, g) (found_refused 9 s (eqb-false 9 0 refl)))
+      too_many h = let g : leb (facility_count s) 4096 ≡ false = rw n_is at (sym ew ∙ h) in rw (all_in, g)
 
-      pub all_found : w ≡ true → record {
-        refusal = 0;
+      pub all_found : w ≡ true → given (record {
         wide_times = wide_in p;
         facilities = n;
         time_count = m;
@@ -177,8 +164,8 @@ module _ (s : List ℕ) (p : Places) (e : p ≡ places_of s) where
         real_test = p.real_test;
         excluded = p.excluded;
         time_zero = p.time_zero;
-      } ≡ found (counted_refusal s) s
-      unfolding counted_refusal count_allowed found places_of
+      }) ≡ answer (counted_refusal s) (sections_of s)
+      unfolding counted_refusal count_allowed sections_of places_of
       all_found h =
           let g : leb (facility_count s) 4096 ≡ true = rw n_is at (sym ew ∙ h) in
           rw (et, table_is, wide_is, all_in, g, n_is, m_is, e)
@@ -200,70 +187,60 @@ one_there p h z =
     (λ q. let six : p.times ≡ 0 = rw q at z in eqb-false p.times 0 (not-true (eqb p.times 0) (sym (or-false (not (eqb p.times 0))) ∙ (rw q at h))) six)
     (λ q. let nine : p.wide_times ≡ 0 = rw q at z in eqb-false p.wide_times 0 q nine)
 
-module _ (s : List ℕ) (b : ℕ) (eb : b ≡ frame_refusal s) where
-  pub frame_bad : (b ≡ 0 → ⊥) → (r : Sections) → r ≡ refused_with b → r ≡ sections_of s
-  unfolding sections_of sections_refusal
-  frame_bad n r q = q ∙ (let g : (frame_refusal s ≡ 0 → ⊥) = λ z. n (eb ∙ z) in rw eb (simp (ne_eqb _ _ g) (found_refused (frame_refusal s) s g)))
+module _ (s : List ℕ) (hb : frame_refusal s ≡ 0) where
+  pub four : (listing_of s).listed ≡ false → refused 4 ≡ located s
+  unfolding sections_refusal
+  four l = rw (hb, l)
 
-  module _ (hb : b ≡ 0) (p : Places) (e : p ≡ places_of s) where
-    pub four : p.listed ≡ false → (r : Sections) → r ≡ refused_with 4 → r ≡ sections_of s
-    unfolding sections_of sections_refusal places_of
-    four h r q = q ∙ (let l : (listing_of s).listed ≡ false = rw e at h in rw (← eb, hb, l) (found_refused 4 s (eqb-false 4 0 refl)))
-
-    pub end_in : p.listed ≡ true → p.end ≤ length s
+  module _ (p : Places) (e : p ≡ places_of s) (h4 : (listing_of s).listed ≡ true) where
+    pub end_in : p.end ≤ length s
     unfolding places_of
-    end_in h = let l : (listing_of s).listed ≡ true = rw e at h in rw e (omega (arith, end_inside s l))
+    end_in = rw e (omega (arith, end_inside s h4))
 
-    module _ (h4 : p.listed ≡ true) where
-      pub five : p.compressed ≡ true → (r : Sections) → r ≡ refused_with 5 → r ≡ sections_of s
-      unfolding sections_of sections_refusal places_of nothing_compressed
-      five h r q =
-          q ∙ (let l : (listing_of s).listed ≡ true = rw e at h4 in
-          let g : any (present s) (range 0x0A 9) ≡ true = rw e at h in rw (← eb, hb, l, g) (found_refused 5 s (eqb-false 5 0 refl)))
+    pub five : p.compressed ≡ true → refused 5 ≡ located s
+    unfolding sections_refusal places_of nothing_compressed
+    five h = let g : any (present s) (range 0x0A 9) ≡ true = rw e at h in rw (hb, h4, g)
 
-      module _ (h5 : p.compressed ≡ false) where
-        abbrev both : Bool
-        both = not (eqb p.times 0) && not (eqb p.wide_times 0)
+    module _ (h5 : p.compressed ≡ false) where
+      abbrev both : Bool
+      both = not (eqb p.times 0) && not (eqb p.wide_times 0)
 
-        once_is : not both ≡ times_once s
-        unfolding times_once present places_of
-        once_is = rw e
+      once_is : not both ≡ times_once s
+      unfolding times_once present places_of
+      once_is = rw e
 
-        pub six : both ≡ true → (r : Sections) → r ≡ refused_with 6 → r ≡ sections_of s
-        unfolding sections_of sections_refusal places_of nothing_compressed
-        six h r q =
-            q ∙ (let l : (listing_of s).listed ≡ true = rw e at h4 in
+      pub six : both ≡ true → refused 6 ≡ located s
+      unfolding sections_refusal places_of nothing_compressed
+      six h =
+          let g : any (present s) (range 0x0A 9) ≡ false = rw e at h5 in
+          let t : times_once s ≡ false = sym once_is ∙ rw h in rw (hb, h4, g, t)
+
+      module _ (h6 : both ≡ false) (z : Bool)
+          (ez : z ≡ ((not (eqb p.changes 0) && (not (eqb p.sync 0) && (not (eqb p.names 0) && (not (eqb p.geometry 0) && true)))) && (not (eqb p.times 0) || not (eqb p.wide_times 0)))) where
+        z_is : z ≡ sections_present s
+        unfolding sections_present all present places_of changes_from
+        z_is = ez ∙ rw e
+
+        pub seven : z ≡ false → refused 7 ≡ located s
+        unfolding sections_refusal places_of nothing_compressed
+        seven h =
             let g : any (present s) (range 0x0A 9) ≡ false = rw e at h5 in
-            let t : times_once s ≡ false = sym once_is ∙ rw h in rw (← eb, hb, l, g, t) (found_refused 6 s (eqb-false 6 0 refl)))
+            let t : times_once s ≡ true = sym once_is ∙ rw h6 in
+            let y : sections_present s ≡ false = sym z_is ∙ h in rw (hb, h4, g, t, y)
 
-        module _ (h6 : both ≡ false) (z : Bool)
-            (ez : z ≡ ((not (eqb p.changes 0) && (not (eqb p.sync 0) && (not (eqb p.names 0) && (not (eqb p.geometry 0) && true)))) && (not (eqb p.times 0) || not (eqb p.wide_times 0)))) where
-          z_is : z ≡ sections_present s
-          unfolding sections_present all present places_of changes_from
-          z_is = ez ∙ rw e
+        module _ (hz : z ≡ true) where
+          both_there : (p.names ≡ 0 → ⊥) × (table_in p ≡ 0 → ⊥)
+          both_there =
+              let times : Bool = not (eqb p.times 0) || not (eqb p.wide_times 0) in
+              let h = third_and_times (not (eqb p.changes 0)) (not (eqb p.sync 0)) (not (eqb p.names 0)) (not (eqb p.geometry 0)) times (sym ez ∙ hz) in
+              (eqb-false _ _ (not-true _ h.0), one_there p h.1)
 
-          pub seven : z ≡ false → (r : Sections) → r ≡ refused_with 7 → r ≡ sections_of s
-          unfolding sections_of sections_refusal places_of nothing_compressed
-          seven h r q =
-              q ∙ (let l : (listing_of s).listed ≡ true = rw e at h4 in
-              let g : any (present s) (range 0x0A 9) ≡ false = rw e at h5 in
+          pub ready : Ready s p
+          ready = record { places = e; within = end_in; names_there = both_there.0; times_there = both_there.1 }
+
+          pub rest : (r : Answer Sections) → r ≡ answer (counted_refusal s) (sections_of s) → r ≡ located s
+          unfolding sections_refusal places_of nothing_compressed
+          rest r q =
+              q ∙ (let g : any (present s) (range 0x0A 9) ≡ false = rw e at h5 in
               let t : times_once s ≡ true = sym once_is ∙ rw h6 in
-              let y : sections_present s ≡ false = sym z_is ∙ h in rw (← eb, hb, l, g, t, y) (found_refused 7 s (eqb-false 7 0 refl)))
-
-          module _ (hz : z ≡ true) where
-            both_there : (p.names ≡ 0 → ⊥) × (table_in p ≡ 0 → ⊥)
-            both_there =
-                let times : Bool = not (eqb p.times 0) || not (eqb p.wide_times 0) in
-                let h = third_and_times (not (eqb p.changes 0)) (not (eqb p.sync 0)) (not (eqb p.names 0)) (not (eqb p.geometry 0)) times (sym ez ∙ hz) in
-                (eqb-false _ _ (not-true _ h.0), one_there p h.1)
-
-            pub ready : Ready s p
-            ready = record { places = e; within = end_in h4; names_there = both_there.0; times_there = both_there.1 }
-
-            pub rest : (r : Sections) → r ≡ found (counted_refusal s) s → r ≡ sections_of s
-            unfolding sections_of sections_refusal places_of nothing_compressed
-            rest r q =
-                q ∙ (let l : (listing_of s).listed ≡ true = rw e at h4 in
-                let g : any (present s) (range 0x0A 9) ≡ false = rw e at h5 in
-                let t : times_once s ≡ true = sym once_is ∙ rw h6 in
-                let y : sections_present s ≡ true = sym z_is ∙ hz in rw (← eb, hb, l, g, t, y))
+              let y : sections_present s ≡ true = sym z_is ∙ hz in rw (hb, h4, g, t, y))

@@ -1,6 +1,6 @@
 -- What the functions of this crate answer, by the definitions of the format.
-use Rattle.std.specs.Prelude.{ℕ, ◌*◌, ◌≤◌, ◌≡◌, Bool, true, false, not, ◌&&◌, ◌||◌, List, map, length, eqb, if◌then◌else◌}
-use Rattle.lxt_format.specs.Basics.{◌unless◌, ◌or_else◌, range, any}
+use Rattle.std.specs.Prelude.{ℕ, ◌*◌, ◌≤◌, ◌≡◌, Bool, true, not, ◌&&◌, ◌||◌, List, map, length, get_or, eqb, if◌then◌else◌, Option, Some, None}
+use Rattle.lxt_format.specs.Basics.{◌unless◌, ◌or_else◌, Answer, answer, range, any}
 use Rattle.lxt_format.specs.Sections.{length_allowed, starts_right, ends_right, Item, listing_of, value_in, section_of, present, end_of, changes_from, facility_count, wide_times, times_at, time_count, nothing_compressed, times_once, sections_present, inside, bodies_inside, count_allowed}
 use Rattle.lxt_sections.specs.declared.Listing.{Listing}
 use Rattle.lxt_sections.specs.declared.Places.{Places}
@@ -14,14 +14,33 @@ frame_refusal s = 1 unless length_allowed s or_else 2 unless starts_right s or_e
 unfoldable pub table_of : List Item → List ℕ
 table_of items = map (λ tag. value_in tag items) (range 0 21)
 
-unfoldable pub listed_of : List ℕ → Listing
-listed_of s = record { listed = (listing_of s).listed; table = table_of (listing_of s).items; end = (listing_of s).end }
+-- the section list, where it ends
+unfoldable pub listed_of : List ℕ → Option Listing
+listed_of s = if (listing_of s).listed then Some (record { table = table_of (listing_of s).items; end = (listing_of s).end }) else None
 
--- what the section list says, by name
+-- what a section list says, by name
+abbrev pub placed_by : Listing → Places
+placed_by l =
+    record {
+      compressed = any (λ tag. not (eqb (get_or l.table tag 0) 0)) (range 0x0A 9);
+      end = l.end;
+      changes = get_or l.table 1 0;
+      sync = get_or l.table 2 0;
+      names = get_or l.table 3 0;
+      geometry = get_or l.table 4 0;
+      timescale = get_or l.table 5 0;
+      times = get_or l.table 6 0;
+      initial = get_or l.table 7 0;
+      real_test = get_or l.table 8 0;
+      wide_times = get_or l.table 9 0;
+      excluded = get_or l.table 19 0;
+      time_zero = get_or l.table 20 0;
+    }
+
+-- what that of a file says
 unfoldable pub places_of : List ℕ → Places
 places_of s =
     record {
-      listed = (listing_of s).listed;
       compressed = any (present s) (range 0x0A 9);
       end = end_of s;
       changes = changes_from s;
@@ -80,32 +99,10 @@ sections_refusal s =
     or_else 7 unless sections_present s
     or_else counted_refusal s
 
--- a refusal's number, and all else 0
-abbrev pub refused_with : ℕ → Sections
-refused_with n =
+-- where everything lies in a file that they pass
+unfoldable pub sections_of : List ℕ → Sections
+sections_of s =
     record {
-      refusal = n;
-      wide_times = false;
-      facilities = 0;
-      time_count = 0;
-      end = 0;
-      changes = 0;
-      sync = 0;
-      names = 0;
-      geometry = 0;
-      timescale = 0;
-      times = 0;
-      initial = 0;
-      real_test = 0;
-      excluded = 0;
-      time_zero = 0;
-    }
-
--- the sections where nothing is refused, else the refusal
-unfoldable pub found : ℕ → List ℕ → Sections
-found refusal s =
-    if eqb refusal 0 then record {
-      refusal = 0;
       wide_times = wide_times s;
       facilities = facility_count s;
       time_count = time_count s;
@@ -121,7 +118,7 @@ found refusal s =
       excluded = section_of s 0x13;
       time_zero = section_of s 0x14;
     }
-    else refused_with refusal
 
-unfoldable pub sections_of : List ℕ → Sections
-sections_of s = found (sections_refusal s) s
+-- that, or the refusal
+abbrev pub located : List ℕ → Answer Sections
+located s = answer (sections_refusal s) (sections_of s)

@@ -5,9 +5,11 @@ ghost use Rattle.std.specs.Prelude.{◌≡◌, true, false, not, ◌&&◌, ◌||
 ghost use Rattle.lxt_format.specs.Bytes.{number_at, u16_at, u32_at};
 ghost use Rattle.lxt_format.specs.Basics.{range, any};
 ghost use Rattle.lxt_format.specs.Sections.{starts_right, ends_right, inside};
-ghost use Rattle.lxt_sections.specs.Stage.{frame_refusal, listed_of, places_of, table_in, Ready, all_inside, counted_refusal, refused_with, found, sections_of};
+ghost use Rattle.lxt_format.specs.Basics.{answer};
+ghost use Rattle.lxt_format.specs.Answers.{says};
+ghost use Rattle.lxt_sections.specs.Stage.{frame_refusal, listed_of, placed_by, places_of, table_in, Ready, all_inside, counted_refusal, sections_of, located};
 
-use lxt_format::{File, SectionCursor, Summary};
+use lxt_format::{File, Refusal, SectionCursor, Summary};
 
 pub mod times;
 pub mod zeros;
@@ -68,82 +70,63 @@ fn ends_right(file: &[u8]) -> bool
     file[file.len() - 1] == 0xb4
 }
 
-// Refusals 1 to 3, or 0.
-fn frame(file: &[u8]) -> u8
-    ensures { result ≡ frame_refusal file.now }
+// Refusals 1 to 3.
+fn frame(file: &[u8]) -> Result<(), Refusal>
+    ensures { says result ≡ answer (frame_refusal file.now) tt }
 {
     if !(File { length: file.len() }).length_is_allowed() {
-        return 1;
+        return Err(Refusal::Length);
     }
     if !starts_right(file) {
-        return 2;
+        return Err(Refusal::Header);
     }
     if !ends_right(file) {
-        return 3;
+        return Err(Refusal::LastByte);
     }
-    0
+    Ok(())
 }
 
 // How many tags there are, from 00 to 14 hex.
 const TAGS: usize = 21;
 
-// The section list: whether END was met, the counting value of each tag, and END's offset.
+// The section list: the counting value of each tag, and END's offset.
 #[derive(Clone, Copy)]
 pub struct Listing {
-    pub listed: bool,
     pub table: [u32; TAGS],
     pub end: usize,
 }
 
-// The table with the value of a tag; a tag above them is skipped.
-fn put(table: [u32; TAGS], tag: usize, value: u32) -> [u32; TAGS]
-    ensures { result ≡ set table tag value }
+// Puts the value of a tag into the table; a tag above them is skipped.
+fn put(table: &mut [u32; TAGS], tag: usize, value: u32)
+    ensures { table.new ≡ set table.old tag value }
 {
-    let mut t = table;
     if tag < TAGS {
-        t[tag] = value;
-    }
-    t
-}
-
-fn unlisted() -> Listing
-    ensures { result ≡ record { listed = false; table = replicate 21 0; end = 0 } }
-{
-    Listing {
-        listed: false,
-        table: [0u32; TAGS],
-        end: 0,
+        table[tag] = value;
     }
 }
 
-// Reads the section list towards the front, up to the first END. A value that is met later takes the
-// place of one met before.
-fn list(file: &[u8]) -> Listing
+// Reads the section list towards the front, up to the first END; without one there is no list. A value that is
+// met later takes the place of one met before.
+fn list(file: &[u8]) -> Option<Listing>
     ensures { result ≡ listed_of file.now }
 {
     let mut met = [0u32; TAGS];
-    let start = SectionCursor::fresh(file.len());
-    let mut p = start.at;
+    let mut p = SectionCursor::fresh(file.len()).at;
     let table = 'items: loop {
         if p < SectionCursor::FIRST {
-            return unlisted();
+            return None;
         }
-        let tag = file[p] as usize;
+        let tag = usize::from(file[p]);
         if tag == 0 {
             break 'items met;
         }
         if p < SectionCursor::FIRST + 4 {
-            return unlisted();
+            return None;
         }
-        let next = put(met, tag, be32(file, p - 4));
-        met = next;
-        p = p - SectionCursor::ITEM;
+        put(&mut met, tag, be32(file, p - 4));
+        p -= SectionCursor::ITEM;
     };
-    Listing {
-        listed: true,
-        table: table,
-        end: p,
-    }
+    Some(Listing { table, end: p })
 }
 
 // What the section list says, by name: C, where each section starts (0 where it is absent), whether a
@@ -151,7 +134,6 @@ fn list(file: &[u8]) -> Listing
 // an offset of all times.
 #[derive(Clone, Copy)]
 pub struct Places {
-    pub listed: bool,
     pub compressed: bool,
     pub end: usize,
     pub changes: u32,
@@ -180,13 +162,11 @@ fn any_compressed(t: [u32; TAGS]) -> bool
                             | ((t[16] != 0) | ((t[17] != 0) | ((t[18] != 0) | false))))))))
 }
 
-fn placed(file: &[u8]) -> Places
-    ensures { result ≡ places_of file.now }
+fn placed(l: Listing) -> Places
+    ensures { result ≡ placed_by l }
 {
-    let l = list(file);
     let t = l.table;
     Places {
-        listed: l.listed,
         compressed: any_compressed(t),
         end: l.end,
         changes: t[1],
@@ -251,10 +231,9 @@ fn all_inside(p: Places, n: u32, size: usize) -> bool
 }
 
 // The sections of a file that refusals 1 to 9 pass: n, m, C, T, where each section starts (0 where it is
-// absent) and whether its times have 8 bytes; or the refusal's number, and all else 0.
+// absent) and whether its times have 8 bytes.
 #[derive(Clone, Copy)]
 pub struct Sections {
-    pub refusal: u8,
     pub wide_times: bool,
     pub facilities: u32,
     pub time_count: u32,
@@ -271,88 +250,62 @@ pub struct Sections {
     pub time_zero: u32,
 }
 
-fn refused(n: u8) -> Sections
-    ensures { result ≡ refused_with n }
-{
-    Sections {
-        refusal: n,
-        wide_times: false,
-        facilities: 0,
-        time_count: 0,
-        end: 0,
-        changes: 0,
-        sync: 0,
-        names: 0,
-        geometry: 0,
-        timescale: 0,
-        times: 0,
-        initial: 0,
-        real_test: 0,
-        excluded: 0,
-        time_zero: 0,
-    }
-}
-
 // Refusals 8 and 9, once 1 to 7 have passed. The head of a table is tested before its count is read.
-fn counted(file: &[u8], p: Places) -> Sections
+fn counted(file: &[u8], p: Places) -> Result<Sections, Refusal>
     requires { Ready file.now p }
-    ensures { result ≡ found (counted_refusal file.now) file.now }
+    ensures { says result ≡ answer (counted_refusal file.now) (sections_of file.now) }
 {
     if !lies(p.end, p.names, 8) {
-        return refused(8);
+        return Err(Refusal::SectionOutside);
     }
-    let wide = p.wide_times != 0;
-    let table = table_of(p);
-    if !lies(p.end, table, times::size(wide, 0)) {
-        return refused(8);
+    let wide_times = p.wide_times != 0;
+    let times = table_of(p);
+    if !lies(p.end, times, times::size(wide_times, 0)) {
+        return Err(Refusal::SectionOutside);
     }
-    let n = be32(file, p.names as usize);
-    let m = be32(file, table as usize);
-    if !all_inside(p, n, times::size(wide, m)) {
-        return refused(8);
+    let facilities = be32(file, p.names as usize);
+    let time_count = be32(file, times as usize);
+    if !all_inside(p, facilities, times::size(wide_times, time_count)) {
+        return Err(Refusal::SectionOutside);
     }
-    if !Summary::count_is_allowed(n) {
-        return refused(9);
+    if !Summary::count_is_allowed(facilities) {
+        return Err(Refusal::TooManyFacilities);
     }
-    Sections {
-        refusal: 0,
-        wide_times: wide,
-        facilities: n,
-        time_count: m,
+    Ok(Sections {
+        wide_times,
+        facilities,
+        time_count,
         end: p.end,
         changes: p.changes,
         sync: p.sync,
         names: p.names,
         geometry: p.geometry,
         timescale: p.timescale,
-        times: table,
+        times,
         initial: p.initial,
         real_test: p.real_test,
         excluded: p.excluded,
         time_zero: p.time_zero,
-    }
+    })
 }
 
 // Refusals 1 to 9, or where everything lies.
-pub fn locate(file: &[u8]) -> Sections
-    ensures { result ≡ sections_of file.now }
+pub fn locate(file: &[u8]) -> Result<Sections, Refusal>
+    ensures { says result ≡ located file.now }
 {
-    let bad = frame(file);
-    if bad != 0 {
-        return refused(bad);
-    }
-    let p = placed(file);
-    if !p.listed {
-        return refused(4);
-    }
+    frame(file)?;
+    let Some(listing) = list(file) else {
+        return Err(Refusal::SectionList);
+    };
+    let p = placed(listing);
     if p.compressed {
-        return refused(5);
+        return Err(Refusal::Compressed);
     }
     if (p.times != 0) & (p.wide_times != 0) {
-        return refused(6);
+        return Err(Refusal::TwoTimeTables);
     }
     if !all_present(p) {
-        return refused(7);
+        return Err(Refusal::SectionAbsent);
     }
     counted(file, p)
 }

@@ -12,9 +12,6 @@ returns-then-p-lt-FIRST c = search low
 pub bounds-file-p : goal.bounds-file-p
 bounds-file-p c = omega arith
 
-pub overflow_cast-tag : goal.overflow_cast-tag
-overflow_cast-tag c = omega (arith, c.shared_slice_known-in-items-1.given c.items.p)
-
 pub returns-then-p : goal.returns-then-p
 returns-then-p c = search cut
 
@@ -28,7 +25,8 @@ pub items-smaller : goal.items-smaller
 items-smaller c = omega arith
 
 pub items-preserved : goal.items-preserved
-items-preserved c = next _ _ _ c.items.invariant (search rules) (search rules) _ (search rules) _ c.put-next.ensures
+items-preserved c =
+    next _ _ _ c.items.invariant _ c.from-tag.ensures (search rules) c.if-tag-eq0.false _ (search rules) _ c.put.ensures
 
 pub returns : goal.returns
 returns c = search ended
