@@ -1,5 +1,6 @@
 -- The names by their lengths alone, and a law for each way out of the functions on names.
-use Rattle.std.specs.Prelude.{if◌then◌else◌}
+use Rattle.std.specs.Prelude.{if◌then◌else◌, Some, None}
+use Rattle.std.specs.Prelude as std
 use Prim.Native.Nat.{ℕ, zero, suc, ◌+◌, ◌-◌, ◌≤◌, ◌<◌, zero-le}
 use mathlib.Core.Path.{◌≡◌, refl, sym, ◌∙◌, ap}
 use mathlib.Core.Bool.{Bool, true, false, ◌&&◌, and-false}
@@ -116,9 +117,9 @@ shifted z T k h =
       | no n ↦ (let l : z < T = omega arith in let g : z - k < T - k = omega arith in simp (lt-ltb _ _ l, lt-ltb _ _ g))
     ]
 
--- the offset after the next n names from p on up to T, after a name of l bytes and with m bytes of memory left; 0 where a rule is broken
-unfoldable pub end_left : List ℕ → ℕ → ℕ → ℕ → ℕ → ℕ → ℕ
-end_left s T n p l m = if names_left n (slice p T s) l m then p + names_size n (slice p T s) else 0
+-- the offset after the next n names from p on up to T, after a name of l bytes and with m bytes of memory left; none where a rule is broken
+unfoldable pub end_left : List ℕ → ℕ → ℕ → ℕ → ℕ → ℕ → std.Option ℕ
+end_left s T n p l m = if names_left n (slice p T s) l m then Some (p + names_size n (slice p T s)) else None
 
 -- ---- a turn of the loop over names, at offsets of the file: T is the offset of END, p that of the next name, n how many are left, l the
 -- length of the name before and m the memory that is left; w is what the whole gives
@@ -154,9 +155,16 @@ module _ (s : List ℕ) (T : ℕ) (t : T ≤ length s) where
       let e : suc n - 1 ≡ n = omega arith in
       simp (drop-drop 2 p (take T s), drop-drop (2 + to_zero (slice (p + 2) T s) + 1) p (take T s), e)
 
-  module _ (n p l m w : ℕ) (inv : end_left s T n p l m ≡ w) (pos : 0 < n) where
-    pub short : T - p < 2 → 0 ≡ w
-    unfolding end_left
+  module _ (all i p l m : ℕ) (w : std.Option ℕ) (inv : end_left s T (all - i) p l m ≡ w) (more : i < all) where
+    n : ℕ
+    n = all - i
+
+    pos : 0 < n
+    unfolding n
+    pos = omega arith
+
+    pub short : T - p < 2 → None ≡ w
+    unfolding end_left n
     short few = rw (cut_off n p l m pos few) at inv
 
     -- v is what the prefix bytes say, z the offset of the first zero, b whether the name is short enough
@@ -185,8 +193,8 @@ module _ (s : List ℕ) (T : ℕ) (t : T ≤ length s) where
           let q = simp (ey, e1) at (size_opened n p pos) in
           omega (arith, q)
 
-      pub broken : tests ≡ false → 0 ≡ w
-      unfolding end_left
+      pub broken : tests ≡ false → None ≡ w
+      unfolding end_left n
       broken h = rw (rw h at tested) at inv
 
       module _ (h : tests ≡ true) where
@@ -203,20 +211,19 @@ module _ (s : List ℕ) (T : ℕ) (t : T ≤ length s) where
         pub within : z + 1 ≤ T
         within = omega (arith, kept.1.0)
 
-        pub next : end_left s T (n - 1) (z + 1) size (m - (size + 1)) ≡ w
-        unfolding end_left
-        next = rw ((rw h at tested), after) at inv
+        pub next : end_left s T (all - (i + 1)) (z + 1) size (m - (size + 1)) ≡ w
+        unfolding end_left n
+        next = let e : all - i - 1 ≡ all - (i + 1) = omega arith in rw e at (rw ((rw h at tested), after) at inv)
 
-pub all_read : (s : List ℕ) (T n p l m w : ℕ) → end_left s T n p l m ≡ w → n ≤ 0 → p ≡ w
+pub all_read : (s : List ℕ) (T all i p l m : ℕ) (w : std.Option ℕ) → end_left s T (all - i) p l m ≡ w → all ≤ i → Some p ≡ w
 unfolding end_left names_left names_size
-all_read s T zero p l m w inv h = omega arith
-all_read s T (suc n) p l m w inv h = absurd (omega arith)
+all_read s T all i p l m w inv h = let z : all - i ≡ 0 = omega arith in let e : p + 0 ≡ p = omega arith in rw (z, e) at inv
 
 -- before the first name
 module _ (s : List ℕ) (at T n m : ℕ) (c : NameCursor) (e : c ≡ record { at = at; before = 0; memory = m }) where
   pub first_within : at ≤ T → c.at ≤ T
   first_within h = rw e h
 
-  pub first : end_left s T n c.at c.before c.memory ≡ end_of_names s at T n m
+  pub first : end_left s T (n - 0) c.at c.before c.memory ≡ end_of_names s at T n m
   unfolding end_left end_of_names
-  first = rw e (rw (by_lengths n (slice at T s) [] m))
+  first = let z : n - 0 ≡ n = omega arith in rw (z, e) (rw (by_lengths n (slice at T s) [] m))

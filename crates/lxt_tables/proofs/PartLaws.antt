@@ -18,7 +18,7 @@ use Rattle.lxt_format.specs.Names.{name_table, names_allowed}
 use Rattle.lxt_format.specs.Judge.{tables_refusal}
 use Rattle.lxt_format.proofs.JudgeLaws.{passed, passed_located}
 use Rattle.lxt_format.specs.Stray.{whole_size, in_body}
-use Rattle.lxt_sections.specs.Stage.{found}
+use Rattle.lxt_sections.specs.Stage.{sections_of}
 use Rattle.lxt_sections.specs.declared.Sections.{Sections}
 use Rattle.lxt_sections.proofs.PlaceLaws.{outside_more}
 use Rattle.lxt_tables.specs.Stage.{after_names}
@@ -153,7 +153,7 @@ all_covered s t once =
 
 module _ (s : List ℕ) (p : Sections) (w : Placed s p) (k : ℕ) (ek : k ≡ after_names s) where
   pub names_below : p.names ≤ k
-  unfolding found
+  unfolding sections_of
   names_below = rw w.places (omega arith)
 
   pub covered : (a : ℕ) → a ≡ part_of p.end p.sync (4 * p.facilities) → (b : ℕ) → b ≡ part_of p.end p.names (k - p.names)
@@ -162,7 +162,7 @@ module _ (s : List ℕ) (p : Sections) (w : Placed s p) (k : ℕ) (ek : k ≡ af
       → (f : ℕ) → f ≡ part_of p.end p.initial 1 → (g : ℕ) → g ≡ part_of p.end p.real_test 8
       → (h : ℕ) → h ≡ part_of p.end p.excluded (4 + 16 * u32_at s p.excluded) → (i : ℕ) → i ≡ part_of p.end p.time_zero 8
       → Bodies s (a ∷ b ∷ c ∷ d ∷ e ∷ f ∷ g ∷ h ∷ i ∷ [])
-  unfolding found whole_size body_size
+  unfolding sections_of whole_size body_size
   covered a ea b eb c ec d ed size es e ee f ef g eg h eh i ei =
       let n : k - section_of s 0x03 ≡ whole_size s 0x03 = omega arith in
       rw (ea, eb, ec, ed, ee, es, ef, eg, eh, ei, w.places, n) (all_covered s high (times_once_lem s w.passed))

@@ -10,8 +10,8 @@ use native.Mathlib.Omega.{arith}
 use native.Mathlib.Decide.{ℕ_discrete}
 use borrow.Author.Tests.{ne_eqb, not-true}
 use Rattle.lxt_format.specs.Limits.{longest_file, most_facilities, widest_facility}
-use Rattle.lxt_format.specs.Basics.{range, any, select}
-use Rattle.lxt_format.specs.BasicsLaws.{on_test, all_range, neither}
+use Rattle.lxt_format.specs.Basics.{given, range, any, select}
+use Rattle.lxt_format.specs.BasicsLaws.{on_test, all_range, neither, was_given}
 use Rattle.lxt_format.specs.Sections.{section_of, end_of, changes_from, facility_count, wide_times, times_at, time_count, timescale_of, initial_of}
 use Rattle.lxt_format.specs.Geometry.{is_alias, geometry_allowed, geometries_allowed, root_of, flags_of, kind_of_flags, facts_by, msb_of, lsb_of, own_facts, roots_of, sync_of}
 use Rattle.lxt_format.proofs.GeometryLaws.{root_below, root_no_alias}
@@ -23,11 +23,11 @@ use Rattle.lxt_format.specs.declared.Kind.{Kind}
 use Rattle.lxt_format.specs.declared.Kind.TheVariants.{Bits, Integer, Real, Text}
 use Rattle.lxt_sections.specs.Stage.{sections_of}
 use Rattle.lxt_sections.specs.declared.Sections.{Sections}
-use Rattle.lxt_tables.specs.Stage.{Geometry, after_names, tables_of}
+use Rattle.lxt_tables.specs.Stage.{Geometry, after_names, tables_with, tables_of, tables_read}
 use Rattle.lxt_tables.specs.Asked.{Sync, Times, Placed}
 use Rattle.lxt_tables.specs.declared.Tables.{Tables}
 use Rattle.lxt_tables.proofs.FacilityLaws.{width_fits}
-use Rattle.lxt_tables.proofs.WholeLaws.{sections_refusal_lem, placed, in_parts}
+use Rattle.lxt_tables.proofs.WholeLaws.{placed, in_parts}
 
 -- the tables of a file that refusals 1 to 14 pass
 pub record Known (s : List ℕ) (t : Tables) : Type 0 where
@@ -58,19 +58,13 @@ pub record Known (s : List ℕ) (t : Tables) : Type 0 where
   pub times_at_lem : Times s t.times t.time_count t.wide_times t.end
 
 module _ (s : List ℕ) (t : Tables) (e : t ≡ tables_of s) where
-  -- the number, 0 where nothing is refused
-  pub refusal_is : t.refusal ≡ tables_refusal s
-  unfolding tables_of
-  refusal_is = rw e (elim (ℕ_discrete (tables_refusal s) 0) [ yes z ↦ rw z | no n ↦ simp (ne_eqb (tables_refusal s) 0 n) ])
-
-  pub known : t.refusal ≡ 0 → Known s t
-  unfolding tables_of
-  known h =
-      let z : tables_refusal s ≡ 0 = sym refusal_is ∙ h in
+  pub known : tables_refusal s ≡ 0 → Known s t
+  unfolding tables_of tables_with
+  known z =
       let p = passed s z in
       let l = passed_located s p in
       let long = passed_length s p in
-      rw (e, z) record {
+      rw e record {
         refusal = z;
         passed = p;
         facilities = refl;
@@ -99,13 +93,17 @@ module _ (s : List ℕ) (t : Tables) (e : t ≡ tables_of s) where
       }
 
   pub names_end_of : tables_refusal s ≡ 0 → t.names_end ≡ after_names s
-  names_end_of z = (known (refusal_is ∙ z)).names_end_lem
+  names_end_of z = (known z).names_end_lem
+
+-- those that reading gave
+pub known_given : (s : List ℕ) (t : Tables) → given t ≡ tables_read s → Known s t
+known_given s t h = let w = was_given (tables_refusal s) (tables_of s) t h in known s t w.1 w.0
 
 -- ---- the sections of a file whose tables pass
 
 module _ (s : List ℕ) (p : Sections) (e : p ≡ sections_of s) where
   pub tables_placed : tables_refusal s ≡ 0 → Placed s p
-  tables_placed z = placed s p e (sections_refusal_lem s p e ∙ (neither _ _ (sym (in_parts s) ∙ z)).0)
+  tables_placed z = placed s p (neither _ _ (sym (in_parts s) ∙ z)).0 e
 
 -- ---- facilities
 
@@ -145,7 +143,7 @@ module _ (s : List ℕ) (p : Passed s) where
 
 -- the tables of an accepted file
 pub tables_known : (s : List ℕ) (t : Tables) → t ≡ tables_of s → file_refusal s ≡ 0 → Known s t
-tables_known s t e h = known s t e (refusal_is s t e ∙ (accepted s h).tables)
+tables_known s t e h = known s t e (accepted s h).tables
 
 -- ---- the byte order of reals, where a root is real
 

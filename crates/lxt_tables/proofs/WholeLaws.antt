@@ -14,22 +14,24 @@ use mir.Val.{SFits, to_z, of_z}
 use mir.ValLaws.{to_z-of_z}
 use borrow.Author.Tests.{ne_eqb, leb-true, eqb-false}
 use Rattle.lxt_format.specs.Limits.{shortest_file, longest_file, most_facilities}
-use Rattle.lxt_format.specs.Basics.{◌unless◌, ◌or_else◌, range, all, any}
-use Rattle.lxt_format.specs.BasicsLaws.{on_test, and_both, neither, kept}
+use Rattle.std.specs.Prelude.{if◌then◌else◌, Some, None}
+use Rattle.std.proofs.lemmas.Option.{none-some, same_Some}
+use Rattle.lxt_format.specs.Basics.{◌unless◌, ◌or_else◌, Answer, given, refused, answer, range, all, any}
+use Rattle.lxt_format.specs.BasicsLaws.{on_test, and_both, neither, kept, was_given, was_refused, passed_on, refuses}
 use Rattle.lxt_format.specs.Bytes.{u32_at}
 use Rattle.lxt_format.specs.Sections.{length_allowed, starts_right, ends_right, listing_of, nothing_compressed, times_once, present, sections_present, body_size, bodies_inside, inside, count_allowed, section_of, end_of, facility_count, time_count, timescale_of, initial_of}
-use Rattle.lxt_format.specs.SectionsLaws.{Located, located, body_inside_lem}
+use Rattle.lxt_format.specs.SectionsLaws.{Located, located as all_located, body_inside_lem}
 use Rattle.lxt_format.specs.Names.{name_table, names_allowed}
 use Rattle.lxt_format.specs.Geometry.{roots_of, sync_of, geometries_allowed, aliases_allowed}
 use Rattle.lxt_format.specs.Times.{table_allowed, times_allowed}
 use Rattle.lxt_format.specs.Reals.{test_pattern, place_of, test_bytes, is_reordering, byte_order, has_real, real_test_allowed}
 use Rattle.lxt_format.specs.Judge.{tables_refusal_by, tables_refusal}
 use Rattle.lxt_format.specs.Stray.{whole_size}
-use Rattle.lxt_sections.specs.Stage.{frame_refusal, counted_refusal, sections_refusal, found, sections_of}
+use Rattle.lxt_sections.specs.Stage.{frame_refusal, counted_refusal, sections_refusal, sections_of, located}
 use Rattle.lxt_sections.specs.declared.Sections.{Sections}
-use Rattle.lxt_tables.specs.Stage.{after_names, refused_tables, tables_of}
+use Rattle.lxt_tables.specs.Stage.{after_names, tables_with, tables_of, tables_read}
 use Rattle.lxt_tables.specs.Asked.{OneByte, Placed}
-use Rattle.lxt_tables.specs.Steps.{end_of_names, name_table_end, middle_refusal, passed_tables, last_tables}
+use Rattle.lxt_tables.specs.Steps.{end_of_names, name_table_end, middle_refusal}
 use Rattle.lxt_tables.specs.declared.Tables.{Tables}
 
 -- ---- what refusals 1 to 9 give
@@ -55,7 +57,7 @@ bounds s h =
     let six = leb-true _ _ (and_both _ _ size).0 in
     let b = kept 8 (bodies_inside s) (lit< tt) c8.0 in
     record {
-      places = located s six (kept 4 _ (lit< tt) c4.0) (kept 7 _ (lit< tt) c7.0) b;
+      places = all_located s six (kept 4 _ (lit< tt) c4.0) (kept 7 _ (lit< tt) c7.0) b;
       bodies = b;
       few = leb-true _ _ (kept 9 (count_allowed (facility_count s)) (lit< tt) c8.1);
       long = leb-true _ _ (and_both (leb shortest_file (length s)) (leb (length s) longest_file) size).1;
@@ -65,10 +67,6 @@ bounds s h =
 -- one of the two tables of times is absent
 pub times_once_lem : (s : List ℕ) → sections_refusal s ≡ 0 → times_once s ≡ true
 times_once_lem s h = (bounds s h).once
-
-found_refusal : (k : ℕ) (s : List ℕ) → (found k s).refusal ≡ k
-unfolding found
-found_refusal k s = elim (ℕ_discrete k 0) [ yes e ↦ rw e | no n ↦ simp (ne_eqb k 0 n) ]
 
 -- the body of a section of one byte lies before END
 one_byte : (s : List ℕ) (tag at : ℕ) → Bounds s → 0x02 ≤ tag → tag < 0x08 → body_size s tag ≡ 1 → at ≡ section_of s tag → OneByte s tag at
@@ -81,19 +79,13 @@ one_byte s tag at b low high size e =
           omega (arith, b.places.end_high));
     }
 
-module _ (s : List ℕ) (p : Sections) (e : p ≡ sections_of s) where
-  pub sections_refusal_lem : p.refusal ≡ sections_refusal s
-  unfolding sections_of
-  sections_refusal_lem = rw e (found_refusal (sections_refusal s) s)
-
-  pub placed : p.refusal ≡ 0 → Placed s p
-  unfolding sections_of found body_size
-  placed h =
-      let z : sections_refusal s ≡ 0 = sym sections_refusal_lem ∙ h in
-      let f : p ≡ found 0 s = rw z at e in
+module _ (s : List ℕ) (p : Sections) (z : sections_refusal s ≡ 0) (e : p ≡ sections_of s) where
+  pub placed : Placed s p
+  unfolding sections_of body_size
+  placed =
       let b = bounds s z in
       let l = b.places in
-      rw f record {
+      rw e record {
         passed = z;
         places = refl;
         few = b.few;
@@ -106,13 +98,19 @@ module _ (s : List ℕ) (p : Sections) (e : p ≡ sections_of s) where
         initial = one_byte s 0x07 (section_of s 0x07) b (lit≤ tt) (lit< tt) refl refl;
       }
 
+-- where locating gave them
+pub located_passed : (s : List ℕ) (p : Sections) → given p ≡ located s → sections_refusal s ≡ 0
+located_passed s p h = (was_given (sections_refusal s) (sections_of s) p h).0
+
+pub placed_given : (s : List ℕ) (p : Sections) → given p ≡ located s → Placed s p
+placed_given s p h = let w = was_given (sections_refusal s) (sections_of s) p h in placed s p w.0 w.1
+
 -- ---- refusals 10 and 13
 
 module _ (s : List ℕ) (p : Sections) (w : Placed s p) where
-  pub names_are : (m : ℕ) → m ≡ u32_at s (p.names + 4) → (r : ℕ)
-      → r ≡ end_of_names s (p.names + 8) p.end p.facilities m → r ≡ name_table_end s
-  unfolding end_of_names name_table_end names_allowed name_table found whole_size
-  names_are m em r er = er ∙ rw (em, w.places) (rw add_assoc)
+  pub names_are : (m : ℕ) → m ≡ u32_at s (p.names + 4) → end_of_names s (p.names + 8) p.end p.facilities m ≡ name_table_end s
+  unfolding end_of_names name_table_end names_allowed name_table sections_of whole_size
+  names_are m em = rw (em, w.places) (rw add_assoc)
 
   pub no_times : p.time_count ≡ 0 → (b : Bool) → b ≡ any (λ f. not (eqb (sync_of s f) 0)) (roots_of s) → not b ≡ times_allowed s
   unfolding times_allowed
@@ -125,23 +123,26 @@ module _ (s : List ℕ) (p : Sections) (w : Placed s p) where
 -- ---- refusals 11 to 13
 
 module _ (s : List ℕ) (a : Bool) (ea : a ≡ geometries_allowed s) where
-  pub eleven : a ≡ false → 11 ≡ middle_refusal s
+  pub eleven : a ≡ false → refused 11 ≡ answer (middle_refusal s) (tt {0})
   unfolding middle_refusal
   eleven h = rw (← ea, h)
 
   module _ (ha : a ≡ true) (b : Bool) (eb : b ≡ aliases_allowed s) where
-    pub twelve : b ≡ false → 12 ≡ middle_refusal s
+    pub twelve : b ≡ false → refused 12 ≡ answer (middle_refusal s) (tt {0})
     unfolding middle_refusal
     twelve h = rw (← ea, ha, ← eb, h)
 
     module _ (hb : b ≡ true) (d : Bool) (ed : d ≡ times_allowed s) where
-      pub thirteen : d ≡ false → 13 ≡ middle_refusal s
+      pub thirteen : d ≡ false → refused 13 ≡ answer (middle_refusal s) (tt {0})
       unfolding middle_refusal
       thirteen h = rw (← ea, ha, ← eb, hb, ← ed, h)
 
-      pub none_refused : d ≡ true → 0 ≡ middle_refusal s
+      pub none_refused : d ≡ true → given (tt {0}) ≡ answer (middle_refusal s) (tt {0})
       unfolding middle_refusal
       none_refused h = rw (← ea, ha, ← eb, hb, ← ed, h)
+
+pub middle_passed : (s : List ℕ) {u : Unit {0}} → given u ≡ answer (middle_refusal s) (tt {0}) → middle_refusal s ≡ 0
+middle_passed s {u} h = (was_given (middle_refusal s) (tt {0}) u h).0
 
 -- ---- what passes
 
@@ -149,7 +150,6 @@ module _ (s : List ℕ) (p : Sections) (w : Placed s p) where
   -- the timescale is read back from its bits
   pub passed_is : (k : ℕ) → k ≡ after_names s → (t : ℤ) → SFits w8 t → t ≡ timescale_of s → (i : ℕ) → i ≡ initial_of s → (order : List ℕ)
       → record {
-        refusal = 0;
         wide_times = p.wide_times;
         facilities = p.facilities;
         time_count = p.time_count;
@@ -163,25 +163,28 @@ module _ (s : List ℕ) (p : Sections) (w : Placed s p) where
         timescale = to_z w8 (of_z w8 t);
         initial = i;
         order = order;
-      } ≡ passed_tables s order
-  unfolding passed_tables found
+      } ≡ tables_with s order
+  unfolding tables_with sections_of
   passed_is k ek t ft et i ei order = rw (ek, to_z-of_z w8 t ft, et, ei, w.places)
 
   -- ---- refusal 14
 
+  abbrev orders : Answer (List ℕ)
+  orders = answer (14 unless real_test_allowed s) (if has_real s then byte_order s else replicate 8 0)
+
   module _ (a : Bool) (ea : a ≡ has_real s) where
-    pub no_real : a ≡ false → (r : Tables) → r ≡ passed_tables s (replicate 8 0) → r ≡ last_tables s
-    unfolding last_tables real_test_allowed
-    no_real h r q = q ∙ rw (← ea, h)
+    pub no_real : a ≡ false → given (replicate 8 0) ≡ orders
+    unfolding real_test_allowed
+    no_real h = rw (← ea, h)
 
     module _ (ha : a ≡ true) (b : Bool) (eb : b ≡ inside p.end p.real_test 8) where
       inside_is : b ≡ inside (end_of s) (section_of s 0x08) 8
-      unfolding found
+      unfolding sections_of
       inside_is = eb ∙ rw w.places
 
-      pub test_outside : b ≡ false → (r : Tables) → r ≡ refused_tables 14 → r ≡ last_tables s
-      unfolding last_tables real_test_allowed
-      test_outside h r q = q ∙ rw (← ea, ha) (simp (sym inside_is ∙ h, and-false))
+      pub test_outside : b ≡ false → refused 14 ≡ orders
+      unfolding real_test_allowed
+      test_outside h = rw (← ea, ha) (simp (sym inside_is ∙ h, and-false))
 
       module _ (hb : b ≡ true) where
         pub test_readable : p.real_test + 8 ≤ length s
@@ -200,20 +203,20 @@ module _ (s : List ℕ) (p : Sections) (w : Placed s p) where
         module _ (order : List ℕ) (eo : order ≡ map (λ x. place_of x (take 8 (drop p.real_test s))) test_pattern) (d : Bool)
             (ed : d ≡ all (λ i. ltb (get_or order i 0) 8) (range 0 8)) where
           order_is : order ≡ byte_order s
-          unfolding byte_order test_bytes found
+          unfolding byte_order test_bytes sections_of
           order_is = eo ∙ rw w.places
 
           reordering_is : d ≡ is_reordering (test_bytes s)
           unfolding is_reordering byte_order all range
           reordering_is = ed ∙ rw order_is
 
-          pub test_wrong : d ≡ false → (r : Tables) → r ≡ refused_tables 14 → r ≡ last_tables s
-          unfolding last_tables real_test_allowed
-          test_wrong h r q = q ∙ rw (← ea, ha, test_there, ← inside_is, hb, ← reordering_is, h)
+          pub test_wrong : d ≡ false → refused 14 ≡ orders
+          unfolding real_test_allowed
+          test_wrong h = rw (← ea, ha, test_there, ← inside_is, hb, ← reordering_is, h)
 
-          pub test_right : d ≡ true → (r : Tables) → r ≡ passed_tables s order → r ≡ last_tables s
-          unfolding last_tables real_test_allowed
-          test_right h r q = q ∙ rw (← ea, ha, test_there, ← inside_is, hb, ← reordering_is, h, order_is)
+          pub test_right : d ≡ true → given order ≡ orders
+          unfolding real_test_allowed
+          test_right h = rw (← ea, ha, test_there, ← inside_is, hb, ← reordering_is, h, order_is)
 
 -- ---- refusals 1 to 14
 
@@ -250,54 +253,36 @@ in_parts s =
     (6 unless times_once s) (7 unless sections_present s) (8 unless bodies_inside s) (9 unless count_allowed (facility_count s))
     (10 unless names_allowed s) (11 unless geometries_allowed s) (12 unless aliases_allowed s) (13 unless times_allowed s) (14 unless real_test_allowed s))
 
-tables_refused : (s : List ℕ) (k : ℕ) → (k ≡ 0 → ⊥) → tables_refusal s ≡ k → refused_tables k ≡ tables_of s
-unfolding tables_of
-tables_refused s k n e = rw e (simp (ne_eqb k 0 n))
-
--- names end above their head, so 0 is refusal 10 and nothing else
-ends_high : (s : List ℕ) → 0 < after_names s
-unfolding whole_size
-ends_high s = omega arith
-
-none_named : (s : List ℕ) → name_table_end s ≡ 0 → names_allowed s ≡ false
+-- where the end of the names was found they are allowed, and it is the offset after them
+pub not_named : (s : List ℕ) → None ≡ name_table_end s → names_allowed s ≡ false
 unfolding name_table_end
-none_named s h = on_test (names_allowed s) (λ e. let z : after_names s ≡ 0 = rw e at h in absurd (omega (arith, z, ends_high s))) (λ e. e)
+not_named s h = on_test (names_allowed s) (λ e. absurd (none-some _ (rw e at h))) (λ e. e)
 
-some_named : (s : List ℕ) (k : ℕ) → k ≡ name_table_end s → (k ≡ 0 → ⊥) → (names_allowed s ≡ true) × (k ≡ after_names s)
+pub all_named : (s : List ℕ) (k : ℕ) → Some k ≡ name_table_end s → (names_allowed s ≡ true) × (k ≡ after_names s)
 unfolding name_table_end
-some_named s k ek n = on_test (names_allowed s) (λ e. (e, (rw e at ek))) (λ e. absurd (n (rw e at ek)))
+all_named s k h = on_test (names_allowed s) (λ e. (e, same_Some k (after_names s) (rw e at h))) (λ e. absurd (none-some k (sym (rw e at h))))
 
-module _ (s : List ℕ) (p : Sections) (e : p ≡ sections_of s) where
-  pub sections_bad : (p.refusal ≡ 0 → ⊥) → (r : Tables) → r ≡ refused_tables p.refusal → r ≡ tables_of s
-  sections_bad n r q =
-      let z : sections_refusal s ≡ 0 → ⊥ = λ y. n (sections_refusal_lem s p e ∙ y) in
-      q ∙ tables_refused s p.refusal n (in_parts s ∙ (simp (ne_eqb (sections_refusal s) 0 z) (sym (sections_refusal_lem s p e))))
+-- a refusal of 1 to 9 is that of the file
+pub located_bad : (s : List ℕ) (n : ℕ) → refused n ≡ located s → refused n ≡ tables_read s
+located_bad s n h = rw (in_parts s) (passed_on (sections_refusal s) _ n (sections_of s) (tables_of s) h)
 
-  module _ (h : p.refusal ≡ 0) (k : ℕ) (ek : k ≡ name_table_end s) where
-    from_names : tables_refusal s ≡ (10 unless names_allowed s or_else middle_refusal s or_else 14 unless real_test_allowed s)
-    from_names = in_parts s ∙ (let z : sections_refusal s ≡ 0 = sym (sections_refusal_lem s p e) ∙ h in rw z)
+module _ (s : List ℕ) (z : sections_refusal s ≡ 0) where
+  pub names_bad : names_allowed s ≡ false → refused 10 ≡ tables_read s
+  names_bad n = rw (in_parts s, z, n)
 
-    pub names_bad : k ≡ 0 → (r : Tables) → r ≡ refused_tables 10 → r ≡ tables_of s
-    names_bad z r q =
-        let n : names_allowed s ≡ false = none_named s (sym ek ∙ z) in
-        q ∙ tables_refused s 10 (eqb-false 10 0 refl) (from_names ∙ rw n)
+  module _ (a : names_allowed s ≡ true) where
+    from_names : tables_refusal s ≡ (middle_refusal s or_else 14 unless real_test_allowed s)
+    from_names = in_parts s ∙ rw (z, a)
 
-    module _ (n : k ≡ 0 → ⊥) where
-      all_named : (names_allowed s ≡ true) × (k ≡ after_names s)
-      all_named = some_named s k ek n
+    -- the refusal of 11 to 13 is that of the file
+    pub middle_bad : (n : ℕ) → refused n ≡ answer (middle_refusal s) (tt {0}) → refused n ≡ tables_read s
+    middle_bad n h = rw from_names (passed_on (middle_refusal s) _ n (tt {0}) (tables_of s) h)
 
-      pub names_end_is : k ≡ after_names s
-      names_end_is = all_named.1
+    module _ (m : middle_refusal s ≡ 0) where
+      pub last_bad : (n : ℕ) → refused n ≡ answer (14 unless real_test_allowed s) (if has_real s then byte_order s else replicate 8 0) → refused n ≡ tables_read s
+      last_bad n h = let w = was_refused (14 unless real_test_allowed s) n _ h in rw (from_names, m) (refuses _ n (tables_of s) (sym w.0) (λ y. w.1 (sym w.0 ∙ y)))
 
-      module _ (b : ℕ) (eb : b ≡ middle_refusal s) where
-        from_middle : tables_refusal s ≡ (b or_else 14 unless real_test_allowed s)
-        from_middle = from_names ∙ rw (all_named.0, ← eb)
-
-        pub middle_bad : (b ≡ 0 → ⊥) → (r : Tables) → r ≡ refused_tables b → r ≡ tables_of s
-        middle_bad y r q = q ∙ tables_refused s b y (from_middle ∙ simp (ne_eqb b 0 y))
-
-        pub to_last : b ≡ 0 → (r : Tables) → r ≡ last_tables s → r ≡ tables_of s
-        unfolding last_tables passed_tables tables_of
-        to_last z r q =
-            let t : tables_refusal s ≡ (14 unless real_test_allowed s) = rw z at from_middle in
-            q ∙ on_test (real_test_allowed s) (λ y. rw (t, y)) (λ y. rw (t, y))
+      pub all_right : (order : List ℕ) → given order ≡ answer (14 unless real_test_allowed s) (if has_real s then byte_order s else replicate 8 0)
+          → given (tables_with s order) ≡ tables_read s
+      unfolding tables_of
+      all_right order h = let w = was_given (14 unless real_test_allowed s) _ order h in rw (from_names, m, w.0, w.1)

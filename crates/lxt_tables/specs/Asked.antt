@@ -6,7 +6,7 @@ use Rattle.lxt_format.specs.Sections.{section_of, end_of, facility_count, wide_t
 use Rattle.lxt_format.specs.Geometry.{root_of, aliases_allowed}
 use Rattle.lxt_format.specs.Times.{time_of_bytes, first_time, last_time, position_deltas, time_delta_bytes}
 use Rattle.lxt_format.specs.BiasedTimes.{bias, biased}
-use Rattle.lxt_sections.specs.Stage.{sections_refusal, found}
+use Rattle.lxt_sections.specs.Stage.{sections_refusal, sections_of}
 use Rattle.lxt_sections.specs.declared.Sections.{Sections}
 use Rattle.lxt_tables.specs.Stage.{Geometry}
 
@@ -63,7 +63,7 @@ pub record OneByte (s : List ℕ) (tag at : ℕ) : Type 0 where
 -- the sections of a file that refusals 1 to 9 pass
 pub record Placed (s : List ℕ) (p : Sections) : Type 0 where
   pub passed : sections_refusal s ≡ 0
-  pub places : p ≡ found 0 s
+  pub places : p ≡ sections_of s
   pub few : p.facilities ≤ most_facilities
   pub end_fits : p.end ≤ longest_file
   pub geometry : Geometry s p.geometry p.facilities

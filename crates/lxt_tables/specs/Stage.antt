@@ -1,5 +1,6 @@
 -- What the functions of this crate answer and ask, by the definitions of the format.
-use Rattle.std.specs.Prelude.{ℕ, ◌+◌, ◌*◌, ◌≤◌, ◌≡◌, false, List, length, replicate, pos, eqb, if◌then◌else◌}
+use Rattle.std.specs.Prelude.{ℕ, ◌+◌, ◌*◌, ◌≤◌, ◌≡◌, List, length, replicate, if◌then◌else◌}
+use Rattle.lxt_format.specs.Basics.{Answer, answer}
 use Rattle.lxt_format.specs.Sections.{section_of, end_of, changes_from, facility_count, wide_times, times_at, time_count, timescale_of, initial_of}
 use Rattle.lxt_format.specs.Reals.{has_real, byte_order}
 use Rattle.lxt_format.specs.Judge.{tables_refusal}
@@ -16,31 +17,10 @@ pub record Geometry (s : List ℕ) (geometry n : ℕ) : Type 0 where
 abbrev pub after_names : List ℕ → ℕ
 after_names s = section_of s 0x03 + whole_size s 0x03
 
--- a refusal's number, and all else 0
-abbrev pub refused_tables : ℕ → Tables
-refused_tables k =
+-- where everything lies, with the byte order of reals
+unfoldable pub tables_with : List ℕ → List ℕ → Tables
+tables_with s order =
     record {
-      refusal = k;
-      wide_times = false;
-      facilities = 0;
-      time_count = 0;
-      end = 0;
-      changes = 0;
-      sync = 0;
-      names = 0;
-      names_end = 0;
-      geometry = 0;
-      times = 0;
-      timescale = pos 0;
-      initial = 0;
-      order = replicate 8 0;
-    }
-
--- what refusals 1 to 14 pass, or the refusal. The byte order of reals is 0 at each place where there is no real facility.
-unfoldable pub tables_of : List ℕ → Tables
-tables_of s =
-    if eqb (tables_refusal s) 0 then record {
-      refusal = 0;
       wide_times = wide_times s;
       facilities = facility_count s;
       time_count = time_count s;
@@ -53,6 +33,13 @@ tables_of s =
       times = times_at s;
       timescale = timescale_of s;
       initial = initial_of s;
-      order = if has_real s then byte_order s else replicate 8 0;
+      order = order;
     }
-    else refused_tables (tables_refusal s)
+
+-- where everything lies in a file that refusals 1 to 14 pass. The byte order of reals is 0 at each place where there is no real facility.
+unfoldable pub tables_of : List ℕ → Tables
+tables_of s = tables_with s (if has_real s then byte_order s else replicate 8 0)
+
+-- that, or the refusal
+abbrev pub tables_read : List ℕ → Answer Tables
+tables_read s = answer (tables_refusal s) (tables_of s)

@@ -12,10 +12,9 @@ pub mod whole; // whole.rt: refusals 1 to 14
 
 // What refusals 1 to 14 pass: whether times have 8 bytes, n, m, C, T, where each table starts, the
 // offset after the last name, the timescale, the initial symbol and the byte order of reals (all 0 where
-// there is no real facility); or the refusal's number, and all else 0.
+// there is no real facility).
 #[derive(Clone, Copy)]
 pub struct Tables {
-    pub refusal: u8,
     pub wide_times: bool,
     pub facilities: u32,
     pub time_count: u32,

@@ -1,5 +1,5 @@
 // The names of a trace: refusal 10. No name is kept; the lengths decide.
-ghost use Rattle.std.specs.Prelude.{◌≡◌, ◌≤◌, length};
+ghost use Rattle.std.specs.Prelude.{◌≡◌, ◌≤◌, length, IfSome};
 ghost use Rattle.lxt_tables.specs.Asked.{Placed};
 ghost use Rattle.lxt_tables.specs.Steps.{end_of_names, name_table_end};
 
@@ -7,18 +7,18 @@ use lxt_format::NameCursor;
 use lxt_sections::zeros::zero_from;
 use lxt_sections::{Sections, be16, be32};
 
-// The offset after the last of `n` names that stand from `at` up to `end`; 0 where they break a rule, or M is
+// The offset after the last of `n` names that stand from `at` up to `end`; none where they break a rule, or M is
 // too small for them.
-pub fn names_end(file: &[u8], at: usize, end: usize, n: u32, memory: u32) -> usize
+pub fn names_end(file: &[u8], at: usize, end: usize, n: u32, memory: u32) -> Option<usize>
     requires { (at ≤ end) × (end ≤ length file.now) }
-    ensures { (result ≡ end_of_names file.now at end n memory) × (result ≤ end) }
+    ensures value { result ≡ end_of_names file.now at end n memory }
+    ensures within { IfSome result (λ next. next ≤ end) }
 {
     let mut next = NameCursor::fresh(at, memory as usize);
-    let mut left = n;
-    while 0 < left {
+    for _ in 0..n {
         let p = next.at;
         if end - p < 2 {
-            return 0;
+            return None;
         }
         let prefix = be16(file, p) as usize;
         let from = p + 2;
@@ -28,24 +28,24 @@ pub fn names_end(file: &[u8], at: usize, end: usize, n: u32, memory: u32) -> usi
             & ((zero < end)
                 & (NameCursor::length_is_allowed(length) & (length + 1 <= next.memory)));
         if !allowed {
-            return 0;
+            return None;
         }
         next = NameCursor {
             at: zero + 1,
             before: length,
             memory: next.memory - (length + 1),
         };
-        left -= 1;
     }
-    next.at
+    Some(next.at)
 }
 
-// The offset after the last name; 0 is refusal 10. The names follow the head, which holds n and M.
-pub fn name_table_end(file: &[u8], p: Sections) -> u32
+// The offset after the last name; none is refusal 10. The names follow the head, which holds n and M.
+pub fn name_table_end(file: &[u8], p: Sections) -> Option<u32>
     requires { Placed file.now p }
     ensures { result ≡ name_table_end file.now }
 {
     let head = p.names as usize;
     let memory = be32(file, head + 4);
-    names_end(file, head + 8, p.end, p.facilities, memory) as u32
+    let end = names_end(file, head + 8, p.end, p.facilities, memory)?;
+    Some(end as u32)
 }

@@ -1,9 +1,12 @@
 // The tables of a whole file: refusals 1 to 14, or what passes them.
-ghost use Rattle.std.specs.Prelude.{◌≡◌};
-ghost use Rattle.lxt_sections.specs.Stage.{sections_of};
-ghost use Rattle.lxt_tables.specs.Stage.{after_names, refused_tables, tables_of};
+ghost use Rattle.std.specs.Prelude.{◌≡◌, replicate, if◌then◌else◌};
+ghost use Rattle.lxt_format.specs.Basics.{◌unless◌, given, answer};
+ghost use Rattle.lxt_format.specs.Reals.{has_real, byte_order, real_test_allowed};
+ghost use Rattle.lxt_format.specs.Answers.{says};
+ghost use Rattle.lxt_sections.specs.Stage.{located};
+ghost use Rattle.lxt_tables.specs.Stage.{after_names, tables_with, tables_read};
 ghost use Rattle.lxt_tables.specs.Asked.{Placed};
-ghost use Rattle.lxt_tables.specs.Steps.{middle_refusal, passed_tables, last_tables};
+ghost use Rattle.lxt_tables.specs.Steps.{middle_refusal};
 
 use crate::Tables;
 use crate::aliases::aliases_allowed;
@@ -12,53 +15,51 @@ use crate::names::name_table_end;
 use crate::reals::{byte_order, has_real, is_reordering};
 use crate::single::{initial, timescale};
 use crate::times::times_allowed;
+use lxt_format::Refusal;
 use lxt_sections::Sections;
 
-fn refused(k: u8) -> Tables
-    ensures { result ≡ refused_tables k }
-{
-    Tables {
-        refusal: k,
-        wide_times: false,
-        facilities: 0,
-        time_count: 0,
-        end: 0,
-        changes: 0,
-        sync: 0,
-        names: 0,
-        names_end: 0,
-        geometry: 0,
-        times: 0,
-        timescale: 0,
-        initial: 0,
-        order: [0u8; 8],
-    }
-}
-
-// Refusals 11 to 13, or 0.
-fn middle(file: &[u8], p: Sections) -> u8
+// Refusals 11 to 13.
+fn middle(file: &[u8], p: Sections) -> Result<(), Refusal>
     requires { Placed file.now p }
-    ensures { result ≡ middle_refusal file.now }
+    ensures { says result ≡ answer (middle_refusal file.now) tt }
 {
     let geometry = p.geometry as usize;
     if !geometries_allowed(file, geometry, p.facilities) {
-        return 11;
+        return Err(Refusal::Geometry);
     }
     if !aliases_allowed(file, geometry, p.facilities) {
-        return 12;
+        return Err(Refusal::Aliases);
     }
     if !times_allowed(file, p) {
-        return 13;
+        return Err(Refusal::Times);
     }
-    0
+    Ok(())
+}
+
+// Refusal 14, or the byte order of reals: all 0 where no facility is a real. An absent real test starts at 0, and
+// so does not lie inside.
+fn real_order(file: &[u8], p: Sections) -> Result<[u8; 8], Refusal>
+    requires { Placed file.now p }
+    ensures { says result ≡ answer (14 unless real_test_allowed file.now) (if has_real file.now then byte_order file.now else replicate 8 0) }
+{
+    if !has_real(file, p.geometry as usize, p.facilities) {
+        return Ok([0u8; 8]);
+    }
+    if !lxt_sections::lies(p.end, p.real_test, 8) {
+        return Err(Refusal::RealTest);
+    }
+    let order = byte_order(file, p.real_test as usize);
+    if !is_reordering(order) {
+        return Err(Refusal::RealTest);
+    }
+    Ok(order)
 }
 
 fn passed(file: &[u8], p: Sections, names_end: u32, order: [u8; 8]) -> Tables
     requires { (Placed file.now p) × (names_end ≡ after_names file.now) }
-    ensures { result ≡ passed_tables file.now order }
+    ensures { result ≡ tables_with file.now order }
 {
     Tables {
-        refusal: 0,
         wide_times: p.wide_times,
         facilities: p.facilities,
         time_count: p.time_count,
@@ -66,55 +67,32 @@ fn passed(file: &[u8], p: Sections, names_end: u32, order: [u8; 8]) -> Tables
         changes: p.changes,
         sync: p.sync,
         names: p.names,
-        names_end: names_end,
+        names_end,
         geometry: p.geometry,
         times: p.times,
         timescale: timescale(file, p.timescale),
         initial: initial(file, p.initial),
-        order: order,
+        order,
     }
 }
 
-// Refusal 14, or what passes. An absent real test starts at 0, and so does not lie inside.
-fn last(file: &[u8], p: Sections, names_end: u32) -> Tables
-    requires { (Placed file.now p) × (names_end ≡ after_names file.now) }
-    ensures { result ≡ last_tables file.now }
+// What refusals 1 to 14 pass, or the refusal, by the sections of the file, which 1 to 9 pass.
+pub fn tables_from(file: &[u8], p: Sections) -> Result<Tables, Refusal>
+    requires { given p ≡ located file.now }
+    ensures { says result ≡ tables_read file.now }
 {
-    if !has_real(file, p.geometry as usize, p.facilities) {
-        return passed(file, p, names_end, [0u8; 8]);
-    }
-    if !lxt_sections::lies(p.end, p.real_test, 8) {
-        return refused(14);
-    }
-    let order = byte_order(file, p.real_test as usize);
-    if !is_reordering(order) {
-        return refused(14);
-    }
-    passed(file, p, names_end, order)
-}
-
-// What refusals 1 to 14 pass, or the refusal, by the sections of the file.
-pub fn tables_from(file: &[u8], p: Sections) -> Tables
-    requires { p ≡ sections_of file.now }
-    ensures { result ≡ tables_of file.now }
-{
-    if p.refusal != 0 {
-        return refused(p.refusal);
-    }
-    let names_end = name_table_end(file, p);
-    if names_end == 0 {
-        return refused(10);
-    }
-    let bad = middle(file, p);
-    if bad != 0 {
-        return refused(bad);
-    }
-    last(file, p, names_end)
+    let Some(names_end) = name_table_end(file, p) else {
+        return Err(Refusal::Names);
+    };
+    middle(file, p)?;
+    let order = real_order(file, p)?;
+    Ok(passed(file, p, names_end, order))
 }
 
 // What refusals 1 to 14 pass, or the refusal.
-pub fn tables(file: &[u8]) -> Tables
-    ensures { result ≡ tables_of file.now }
+pub fn tables(file: &[u8]) -> Result<Tables, Refusal>
+    ensures { says result ≡ tables_read file.now }
 {
-    tables_from(file, lxt_sections::locate(file))
+    let p = lxt_sections::locate(file)?;
+    tables_from(file, p)
 }

@@ -1,22 +1,21 @@
 use borrow.Author.Rules.{rules}
-use borrow.Author.Tests.{not-true, not-false}
 use Rattle.lxt_tables.proofs.NamesLaws.{short, broken, memory_left, within, next, all_read, first_within, first}
 use Rattle.lxt_tables.proofs.names.names_end.Goals as goal
 
-pub loop-left-init : goal.loop-left-init
-loop-left-init c = (search first_within, search first)
+pub loop-init : goal.loop-init
+loop-init c = (search first_within, search first)
 
 pub returns-then-end-p-lt2 : goal.returns-then-end-p-lt2
-returns-then-end-p-lt2 c = (search short, search rules)
+returns-then-end-p-lt2 c = record { value = search short; within = search rules }
 
 pub returns-then-not-allowed : goal.returns-then-not-allowed
-returns-then-not-allowed c = (search (broken, not-true), search rules)
+returns-then-not-allowed c = record { value = search broken; within = search rules }
 
 pub overflow_sub-next : goal.overflow_sub-next
-overflow_sub-next c = search (memory_left, not-false)
+overflow_sub-next c = search memory_left
 
-pub loop-left-preserved : goal.loop-left-preserved
-loop-left-preserved c = (search (within, not-false), search (next, not-false))
+pub loop-preserved : goal.loop-preserved
+loop-preserved c = (search within, search next)
 
 pub returns : goal.returns
-returns c = (search all_read, search rules)
+returns c = record { value = search all_read; within = search rules }
