@@ -11,21 +11,25 @@ use native.Mathlib.Omega.{arith}
 use native.Mathlib.Decide.{ℕ_discrete, dec_le}
 use borrow.Author.Tests.{eq-eqb, ne_eqb, le-leb, lt-leb, lt-ltb, le-ltb, leb-true, ltb-true}
 use Rattle.lxt_format.specs.Limits.{widest_facility}
-use Rattle.lxt_format.specs.Basics.{◌unless◌, ◌or_else◌}
+use Rattle.lxt_format.specs.Basics.{◌unless◌, ◌or_else◌, given, refused, answer}
 use Rattle.lxt_format.specs.Bytes.{byte_at, to_zero}
-use Rattle.lxt_format.specs.BasicsLaws.{neither, kept, stops, and_both}
+use Rattle.lxt_format.specs.BasicsLaws.{neither, kept, and_both, was_given, was_refused, passed_on, same_refusal}
 use Rattle.lxt_format.proofs.ChangesLaws.{previous_lt, faults_none, faults_next, faults_here, clean_none, clean_next, sound}
 use Rattle.lxt_format.specs.BytesLaws.{at_zero, zero_bounds}
 use Rattle.lxt_format.specs.Changes.{Signal, signal, command_of, data_at, previous_of, command_allowed, symbol_size, packed_size, codes_allowed, padding_clean, data_size, data_allowed, clean_at, change_end, previous_allowed, fault_at, chain_fault, chain_clean}
 use Rattle.lxt_format.specs.declared.Kind.{Kind}
 use Rattle.lxt_format.specs.declared.Kind.TheVariants.{Bits, Integer, Real, Text}
 use Rattle.lxt_changes.specs.Windows.{Known, Answered, Data}
-use Rattle.lxt_changes.specs.Faults.{LastZero, start_fault, body_fault, symbol_fault, symbol_clean, Found, Tells, symbolic, Setting}
+use Rattle.lxt_changes.specs.Faults.{LastZero, start_fault, body_fault, symbol_fault, symbol_clean, Found, symbolic, Setting}
 use Rattle.lxt_changes.proofs.CodeLaws.{codes_none}
 use Rattle.lxt_changes.proofs.PaddingLaws.{padding_none}
 use Rattle.lxt_changes.specs.declared.symbols.Window.{Window}
 use Rattle.lxt_changes.specs.declared.symbols.Checked.{Checked}
-use Rattle.lxt_changes.specs.declared.fault.Faulted.{Faulted}
+use Rattle.lxt_changes.specs.declared.fault.Sound.{Sound}
+use Rattle.std.specs.Prelude.{Result, Ok, Err}
+use Rattle.lxt_format.specs.Answers.{refusal_number}
+use Rattle.lxt_format.specs.declared.refusal.Refusal.{Refusal}
+use Rattle.lxt_format.specs.declared.refusal.Refusal.TheVariants.{ChangeOutside, ChangeContent}
 
 -- ---- the last zero
 
@@ -54,20 +58,20 @@ module _ (s : List ℕ) (end p : ℕ) (w : Above s end p) where
 -- ---- the first two tests
 
 module _ (s : List ℕ) (C T : ℕ) (kind : Kind) (o : ℕ) where
-  pub below : o < C → 15 ≡ start_fault s C T kind o
+  pub below : o < C → refused 15 ≡ answer (start_fault s C T kind o) (tt {0})
   unfolding start_fault
   below h = simp (lt-leb C o h)
 
-  pub past : T ≤ o → 15 ≡ start_fault s C T kind o
+  pub past : T ≤ o → refused 15 ≡ answer (start_fault s C T kind o) (tt {0})
   unfolding start_fault
   past h = simp (le-ltb o T h, and-false)
 
   module _ (a : C ≤ o) (b : o < T) (z : Bool) (ez : z ≡ (ltb (byte_at s o) 0x40 && command_allowed kind (byte_at s o % 16))) where
-    pub wrong_command : z ≡ false → 16 ≡ start_fault s C T kind o
+    pub wrong_command : z ≡ false → refused 16 ≡ answer (start_fault s C T kind o) (tt {0})
     unfolding start_fault command_of
     wrong_command h = simp (le-leb C o a, lt-ltb o T b, ← ez, h)
 
-    pub right_command : z ≡ true → 0 ≡ start_fault s C T kind o
+    pub right_command : z ≡ true → given (tt {0}) ≡ answer (start_fault s C T kind o) (tt {0})
     unfolding start_fault command_of
     right_command h = simp (le-leb C o a, lt-ltb o T b, ← ez, h)
 
@@ -93,13 +97,12 @@ module _ (s : List ℕ) (T width o : ℕ) (b size at : ℕ) (eb : b ≡ symbol_s
   end_is = rw (es, eb, ea)
 
   module _ (w : Window) (k : Known s w) where
-    pub symbols_out : T < at + size → Found s (symbol_fault s T width o) (symbol_clean s width o) (record { fault = 15; clean = false; window = w })
+    pub symbols_out : T < at + size → Found s (symbol_fault s T width o) (symbol_clean s width o) (Err ChangeOutside)
     unfolding symbol_fault
     symbols_out h =
         record {
-          number = (let g : T < data_at s o + packed_size (symbol_size (command_of s o)) width = rw end_is h in simp (lt-leb _ _ g));
-          clean = λ z. absurd (omega arith);
-          known = k;
+          told = (let g : T < data_at s o + packed_size (symbol_size (command_of s o)) width = rw end_is h in simp (lt-leb _ _ g));
+          known = tt;
         }
 
   module _ (h : at + size ≤ T) where
@@ -110,30 +113,29 @@ module _ (s : List ℕ) (T width o : ℕ) (b size at : ℕ) (eb : b ≡ symbol_s
     fits = rw end_is (le-leb _ _ h)
 
     -- there is no data
-    pub symbols_none : b ≡ 0 → (w : Window) → Known s w → Found s (symbol_fault s T width o) (symbol_clean s width o) (record { fault = 0; clean = true; window = w })
+    pub symbols_none : b ≡ 0 → (w : Window) → Known s w → Found s (symbol_fault s T width o) (symbol_clean s width o) (Ok (record { clean = true; window = w }))
     unfolding symbol_fault symbol_clean command_of
     symbols_none z w k =
         let e : symbol_size (byte_at s o % 16) ≡ 0 = sym eb ∙ z in
         let c : codes_allowed s (symbol_size (byte_at s o % 16)) width (data_at s o) ≡ true = rw e (codes_none s width (data_at s o)) in
-        record {
-          number = simp (fits, c);
-          clean = λ q. rw e (sym (padding_none s width (data_at s o)));
-          known = k;
-        }
+        let p : padding_clean s (symbol_size (byte_at s o % 16)) width (data_at s o) ≡ true = rw e (padding_none s width (data_at s o)) in
+        record { told = simp (fits, c, p); known = k }
 
     module _ (c : Checked) (a : Answered s (codes_allowed s b width at) c) where
       allowed_is : c.allowed ≡ codes_allowed s (symbol_size (command_of s o)) width (data_at s o)
       unfolding command_of
       allowed_is = a.answer ∙ rw (eb, ea)
 
-      pub symbols_wrong : c.allowed ≡ false → Found s (symbol_fault s T width o) (symbol_clean s width o) (record { fault = 16; clean = false; window = c.window })
+      pub symbols_wrong : c.allowed ≡ false → Found s (symbol_fault s T width o) (symbol_clean s width o) (Err ChangeContent)
       unfolding symbol_fault
-      symbols_wrong e = record { number = simp (fits, ← allowed_is, e); clean = λ z. absurd (omega arith); known = a.known }
+      symbols_wrong e = record { told = simp (fits, ← allowed_is, e); known = tt }
 
       pub symbols_right : c.allowed ≡ true → (z : Bool) → z ≡ padding_clean s b width at
-          → Found s (symbol_fault s T width o) (symbol_clean s width o) (record { fault = 0; clean = z; window = c.window })
+          → Found s (symbol_fault s T width o) (symbol_clean s width o) (Ok (record { clean = z; window = c.window }))
       unfolding symbol_fault symbol_clean command_of
-      symbols_right e z ez = record { number = simp (fits, ← allowed_is, e); clean = λ q. ez ∙ rw (eb, ea); known = a.known }
+      symbols_right e z ez =
+          let p : z ≡ padding_clean s (symbol_size (byte_at s o % 16)) width (data_at s o) = ez ∙ rw (eb, ea) in
+          record { told = rw p (simp (fits, ← allowed_is, e)); known = a.known }
 
 -- ---- reals and texts
 
@@ -142,11 +144,11 @@ module _ (s : List ℕ) (T o at : ℕ) (ea : at ≡ data_at s o) where
   unfolding change_end data_size
   real_end = rw ea
 
-  pub real_out : T < at + 8 → 15 ≡ body_fault s T Real 0 o
+  pub real_out : T < at + 8 → refused 15 ≡ answer (body_fault s T Real 0 o) (tt {0})
   unfolding body_fault
   real_out h = let g : T < change_end s (signal 0 T Real 0) o = rw real_end h in simp (lt-leb _ _ g)
 
-  pub real_in : at + 8 ≤ T → 0 ≡ body_fault s T Real 0 o
+  pub real_in : at + 8 ≤ T → given (tt {0}) ≡ answer (body_fault s T Real 0 o) (tt {0})
   unfolding body_fault data_allowed
   real_in h = let g : change_end s (signal 0 T Real 0) o ≤ T = rw real_end h in simp (le-leb _ _ g)
 
@@ -180,11 +182,11 @@ module _ (s : List ℕ) (T z o at : ℕ) (w : LastZero s T z) (fits : T ≤ leng
   unfolding change_end data_size
   text_end = rw ea
 
-  pub text_out : z ≤ at → 15 ≡ body_fault s T Text 0 o
+  pub text_out : z ≤ at → refused 15 ≡ answer (body_fault s T Text 0 o) (tt {0})
   unfolding body_fault
   text_out h = let g : T < change_end s (signal 0 T Text 0) o = rw text_end (passes s T z w fits at h) in simp (lt-leb _ _ g)
 
-  pub text_in : at < z → 0 ≡ body_fault s T Text 0 o
+  pub text_in : at < z → given (tt {0}) ≡ answer (body_fault s T Text 0 o) (tt {0})
   unfolding body_fault data_allowed
   text_in h = let g : change_end s (signal 0 T Text 0) o ≤ T = rw text_end (ends_before s T z w fits at h) in simp (le-leb _ _ g)
 
@@ -196,25 +198,36 @@ width_least s T z kind width t (inl e) = t.least (rw e)
 width_least s T z kind width t (inr e) = t.least (rw e)
 
 module _ (s : List ℕ) (T z : ℕ) (kind : Kind) (width o : ℕ) (w : Window) (t : Setting s T z kind width) (k : Known s w) where
-  pub bits_body : kind ≡ Bits → (r : Faulted) → Found s (symbol_fault s T width o) (symbol_clean s width o) r
-      → Found s (body_fault s T kind width o) (clean_at s (signal 0 T kind width) o) r
+  abbrev body : Result Sound Refusal → Type 0
+  body r = Found s (body_fault s T kind width o) (clean_at s (signal 0 T kind width) o) r
+
+  pub symbols_body : (kind ≡ Bits) ⊎ (kind ≡ Integer) → (r : Result Sound Refusal) → Found s (symbol_fault s T width o) (symbol_clean s width o) r → body r
   unfolding symbol_fault symbol_clean body_fault change_end data_size data_allowed clean_at
-  bits_body e r f = record { number = rw e f.number; clean = λ z. rw e (f.clean z); known = f.known }
+  symbols_body (inl e) r f = record { told = rw e f.told; known = f.known }
+  symbols_body (inr e) r f = record { told = rw e f.told; known = f.known }
 
-  pub integer_body : kind ≡ Integer → (r : Faulted) → Found s (symbol_fault s T width o) (symbol_clean s width o) r
-      → Found s (body_fault s T kind width o) (clean_at s (signal 0 T kind width) o) r
-  unfolding symbol_fault symbol_clean body_fault change_end data_size data_allowed clean_at
-  integer_body e r f = record { number = rw e f.number; clean = λ z. rw e (f.clean z); known = f.known }
+  -- a real or a text with a fault, one without
+  real_fault_is : kind ≡ Real → body_fault s T kind width o ≡ body_fault s T Real 0 o
+  unfolding body_fault change_end data_size data_allowed
+  real_fault_is e = rw e
 
-  pub real_body : kind ≡ Real → (v : ℕ) → v ≡ body_fault s T Real 0 o
-      → Found s (body_fault s T kind width o) (clean_at s (signal 0 T kind width) o) (record { fault = v; clean = true; window = w })
-  unfolding body_fault change_end data_size data_allowed clean_at
-  real_body e v f = record { number = rw e f; clean = λ z. rw e; known = k }
+  text_fault_is : kind ≡ Text → body_fault s T kind width o ≡ body_fault s T Text 0 o
+  unfolding body_fault change_end data_size data_allowed
+  text_fault_is e = rw e
 
-  pub text_body : kind ≡ Text → (v : ℕ) → v ≡ body_fault s T Text 0 o
-      → Found s (body_fault s T kind width o) (clean_at s (signal 0 T kind width) o) (record { fault = v; clean = true; window = w })
-  unfolding body_fault change_end data_size data_allowed clean_at
-  text_body e v f = record { number = rw e f; clean = λ z. rw e; known = k }
+  pub real_wrong : kind ≡ Real → (f : Refusal) → refused (refusal_number f) ≡ answer (body_fault s T Real 0 o) (tt {0}) → body (Err f)
+  real_wrong e f h = record { told = same_refusal _ _ _ (tt {0}) _ (real_fault_is e) h; known = tt }
+
+  pub text_wrong : kind ≡ Text → (f : Refusal) → refused (refusal_number f) ≡ answer (body_fault s T Text 0 o) (tt {0}) → body (Err f)
+  text_wrong e f h = record { told = same_refusal _ _ _ (tt {0}) _ (text_fault_is e) h; known = tt }
+
+  pub real_body : kind ≡ Real → {u : Unit {0}} → given u ≡ answer (body_fault s T Real 0 o) (tt {0}) → body (Ok (record { clean = true; window = w }))
+  unfolding clean_at
+  real_body e {u} h = record { told = rw (real_fault_is e, (was_given _ (tt {0}) u h).0, e); known = k }
+
+  pub text_body : kind ≡ Text → {u : Unit {0}} → given u ≡ answer (body_fault s T Text 0 o) (tt {0}) → body (Ok (record { clean = true; window = w }))
+  unfolding clean_at
+  text_body e {u} h = record { told = rw (text_fault_is e, (was_given _ (tt {0}) u h).0, e); known = k }
 
 -- ---- all tests of a change
 
@@ -246,39 +259,45 @@ module _ (s : List ℕ) (C T : ℕ) (kind : Kind) (width o : ℕ) where
       in_two (15 unless (leb C o && ltb o T)) (16 unless (ltb (byte_at s o) 0x40 && command_allowed kind (command_of s o)))
       (15 unless leb (change_end s (signal 0 T kind width) o) T) (16 unless data_allowed s (signal 0 T kind width) o) (15 unless previous_allowed s C o)
 
-  -- a start without a fault lies before T
-  pub starts_before : (v : ℕ) → v ≡ start_fault s C T kind o → v ≡ 0 → o < T
+  -- a start with a fault, and one without, which lies before T
+  pub bad_start : (n : ℕ) → refused n ≡ answer (start_fault s C T kind o) (tt {0}) → refused n ≡ answer fault padding
+  bad_start n h = rw tests (passed_on (start_fault s C T kind o) _ n (tt {0}) padding h)
+
+  pub started : {u : Unit {0}} → given u ≡ answer (start_fault s C T kind o) (tt {0}) → start_fault s C T kind o ≡ 0
+  started {u} h = (was_given _ (tt {0}) u h).0
+
+  pub starts_before : start_fault s C T kind o ≡ 0 → o < T
   unfolding start_fault
-  starts_before v e z =
-      let a = neither (15 unless (leb C o && ltb o T)) (16 unless (ltb (byte_at s o) 0x40 && command_allowed kind (command_of s o))) (sym e ∙ z) in
+  starts_before z =
+      let a = neither (15 unless (leb C o && ltb o T)) (16 unless (ltb (byte_at s o) 0x40 && command_allowed kind (command_of s o))) z in
       let b = and_both (leb C o) (ltb o T) (kept 15 _ (lit< tt) a.0) in
       ltb-true o T b.1
 
-  module _ (v : ℕ) (ev : v ≡ start_fault s C T kind o) where
-    pub bad_start : (w : Window) → Known s w → (v ≡ 0 → ⊥) → Found s fault padding (record { fault = v; clean = false; window = w })
-    bad_start w k n = record { number = sym (tests ∙ rw (← ev) (stops v _ n)); clean = λ z. absurd (n z); known = k }
+  module _ (z : start_fault s C T kind o ≡ 0) where
+    from_body : fault ≡ (body_fault s T kind width o or_else 15 unless previous_allowed s C o)
+    from_body = tests ∙ rw z
 
-    module _ (hv : v ≡ 0) (r : Faulted) (f : Found s (body_fault s T kind width o) (clean_at s (signal 0 T kind width) o) r) where
-      rest : fault ≡ (r.fault or_else 15 unless previous_allowed s C o)
-      rest = tests ∙ rw (← ev, hv, f.number)
+    pub bad_body : (n : ℕ) → refused n ≡ answer (body_fault s T kind width o) (clean_at s (signal 0 T kind width) o) → refused n ≡ answer fault padding
+    bad_body n h = rw from_body (passed_on (body_fault s T kind width o) _ n _ padding h)
+
+    module _ (b : Bool) (h : given b ≡ answer (body_fault s T kind width o) (clean_at s (signal 0 T kind width) o)) where
+      sound_body : body_fault s T kind width o ≡ 0
+      sound_body = (was_given _ _ b h).0
 
       -- whether padding was clean does not depend on C
-      padded : r.fault ≡ 0 → r.clean ≡ padding
+      padded : b ≡ padding
       unfolding clean_at
-      padded = f.clean
+      padded = (was_given _ _ b h).1
 
-      pub bad_body : (r.fault ≡ 0 → ⊥) → Found s fault padding r
-      bad_body n = record { number = sym (rest ∙ stops r.fault _ n); clean = padded; known = f.known }
+      pub body_inside_lem : T ≤ length s → data_at s o ≤ length s
+      body_inside_lem l = let e = body_ends s T kind width o sound_body in omega arith
 
-      pub body_inside_lem : r.fault ≡ 0 → T ≤ length s → data_at s o ≤ length s
-      body_inside_lem z l = let b = body_ends s T kind width o (sym f.number ∙ z) in omega arith
+      module _ (q : Bool) (eq : q ≡ previous_allowed s C o) where
+        pub bad_previous : q ≡ false → refused 15 ≡ answer fault padding
+        bad_previous g = rw (from_body, sound_body, ← eq, g)
 
-      module _ (z : r.fault ≡ 0) (q : Bool) (eq : q ≡ previous_allowed s C o) where
-        pub bad_previous : q ≡ false → Found s fault padding (record { fault = 15; clean = false; window = r.window })
-        bad_previous h = record { number = sym (rest ∙ rw (z, ← eq, h)); clean = λ e. absurd (omega arith); known = f.known }
-
-        pub no_fault : q ≡ true → Found s fault padding (record { fault = 0; clean = r.clean; window = r.window })
-        no_fault h = record { number = sym (rest ∙ rw (z, ← eq, h)); clean = λ e. padded z; known = f.known }
+        pub no_fault : q ≡ true → given b ≡ answer fault padding
+        no_fault g = rw (from_body, sound_body, ← eq, g, padded)
 
 -- ---- a chain
 
@@ -296,36 +315,38 @@ module _ (s : List ℕ) (C T : ℕ) (kind : Kind) (width start : ℕ) where
   at_start = record { known = record { good = λ i a b. absurd (omega arith); within = zero-le }; whole = refl; padding = refl }
 
   module _ (o : ℕ) (clean : Bool) (w : Window) (l : Left o clean w) where
-    pub at_end : o ≡ 0 → Tells (chain_fault s g start) (chain_clean s g start) (record { fault = 0; clean = clean })
+    pub at_end : o ≡ 0 → given clean ≡ answer (chain_fault s g start) (chain_clean s g start)
     at_end e =
-        record {
-          number = sym (faults_none s g) ∙ (rw e at l.whole);
-          clean = λ z. sym (and-true clean) ∙ (rw (e, clean_none s g) at l.padding);
-        }
+        let f : chain_fault s g start ≡ 0 = sym (rw e at l.whole) ∙ faults_none s g in
+        let c : clean ≡ chain_clean s g start = sym (and-true clean) ∙ (rw (e, clean_none s g) at l.padding) in
+        rw (f, c)
 
-    module _ (some : o ≡ 0 → ⊥) (r : Faulted) (f : Found s (fault_at s g o) (clean_at s g o) r) where
-      pub fault_found : (r.fault ≡ 0 → ⊥) → Tells (chain_fault s g start) (chain_clean s g start) (record { fault = r.fault; clean = false })
-      fault_found n =
-          record {
-            number = f.number ∙ sym (faults_here s g o (omega arith) (λ z. n (f.number ∙ z))) ∙ l.whole;
-            clean = λ z. absurd (n z);
-          }
+    module _ (some : o ≡ 0 → ⊥) where
+      pub fault_found : (n : ℕ) → refused n ≡ answer (fault_at s g o) (clean_at s g o) → refused n ≡ answer (chain_fault s g start) (chain_clean s g start)
+      fault_found n h =
+          let w = was_refused _ n _ h in
+          let e : chain_fault s g start ≡ fault_at s g o = sym l.whole ∙ faults_here s g o (omega arith) w.1 in
+          same_refusal _ _ n _ _ e h
 
-      pub inside : r.fault ≡ 0 → T ≤ length s → (o < length s) × (data_at s o ≤ length s)
-      inside z fits =
-          let d = sound s g o (sym f.number ∙ z) in
-          let a = d.before in
-          let b = d.ends in
-          let c : data_at s o ≤ change_end s g o = (unfold change_end in omega arith) in
-          (omega arith, omega arith)
+      module _ (r : Sound) (h : given r.clean ≡ answer (fault_at s g o) (clean_at s g o)) where
+        z : fault_at s g o ≡ 0
+        z = (was_given _ _ r.clean h).0
 
-      pub next_left : r.fault ≡ 0 → (p : ℕ) → p ≡ previous_of s o → Left p (clean && r.clean) r.window
-      next_left z p e =
-          record {
-            known = f.known;
-            whole = rw e (sym (faults_next s g o (omega arith) (sym f.number ∙ z)) ∙ l.whole);
-            padding = rw (e, f.clean z) (and_assoc clean (clean_at s g o) _ ∙ (rw (clean_next s g o (omega arith)) at l.padding));
-          }
+        pub inside : T ≤ length s → (o < length s) × (data_at s o ≤ length s)
+        inside fits =
+            let d = sound s g o z in
+            let a = d.before in
+            let b = d.ends in
+            let c : data_at s o ≤ change_end s g o = (unfold change_end in omega arith) in
+            (omega arith, omega arith)
+
+        pub next_left : Known s r.window → (p : ℕ) → p ≡ previous_of s o → Left p (clean && r.clean) r.window
+        next_left known p e =
+            record {
+              known = known;
+              whole = rw e (sym (faults_next s g o (omega arith) z) ∙ l.whole);
+              padding = rw (e, (was_given _ _ r.clean h).1) (and_assoc clean (clean_at s g o) _ ∙ (rw (clean_next s g o (omega arith)) at l.padding));
+            }
 
       pub falls : (p : ℕ) → p ≡ previous_of s o → p < o
       falls p e = let a = previous_lt s o (omega arith) in omega arith

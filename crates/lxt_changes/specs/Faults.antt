@@ -1,14 +1,15 @@
 -- The faults of a change, test by test.
-use Rattle.std.specs.Prelude.{ℕ, ◌+◌, ◌-◌, ◌≤◌, ◌<◌, ◌≡◌, Bool, true, false, ◌&&◌, List, length, ltb, leb}
+use Rattle.std.specs.Prelude.{ℕ, ◌+◌, ◌-◌, ◌≤◌, ◌<◌, ◌≡◌, Bool, true, false, ◌&&◌, List, length, ltb, leb, Result, Ok, Err, IfOk}
 use Rattle.lxt_format.specs.Limits.{widest_facility}
-use Rattle.lxt_format.specs.Basics.{◌unless◌, ◌or_else◌}
+use Rattle.lxt_format.specs.Basics.{◌unless◌, ◌or_else◌, Answer, given, refused, answer}
+use Rattle.lxt_format.specs.Answers.{refusal_number}
+use Rattle.lxt_format.specs.declared.refusal.Refusal.{Refusal}
 use Rattle.lxt_format.specs.Bytes.{byte_at}
 use Rattle.lxt_format.specs.Changes.{signal, command_of, data_at, command_allowed, symbol_size, packed_size, codes_allowed, padding_clean, data_allowed, change_end}
 use Rattle.lxt_format.specs.declared.Kind.{Kind}
 use Rattle.lxt_format.specs.declared.Kind.TheVariants.{Bits, Integer, Real, Text}
 use Rattle.lxt_changes.specs.Windows.{Known}
-use Rattle.lxt_changes.specs.declared.fault.Faulted.{Faulted}
-use Rattle.lxt_changes.specs.declared.fault.Verdict.{Verdict}
+use Rattle.lxt_changes.specs.declared.fault.Sound.{Sound}
 
 -- the last zero before `end` is the byte before z; there is none where z is 0
 pub record LastZero (s : List ℕ) (end z : ℕ) : Type 0 where
@@ -36,16 +37,15 @@ symbol_fault s T width o =
 unfoldable pub symbol_clean : List ℕ → ℕ → ℕ → Bool
 symbol_clean s width o = padding_clean s (symbol_size (command_of s o)) width (data_at s o)
 
--- a change's fault that was found; where it has none, whether its padding was clean; and what is known after that
-pub record Found (s : List ℕ) (fault : ℕ) (padding : Bool) (r : Faulted) : Type 0 where
-  pub number : r.fault ≡ fault
-  pub clean : r.fault ≡ 0 → r.clean ≡ padding
-  pub known : Known s r.window
+-- whether the padding was clean, or the fault
+abbrev pub sound_says : Result Sound Refusal → Answer Bool
+sound_says (Ok r) = given r.clean
+sound_says (Err e) = refused (refusal_number e)
 
--- the first fault of changes; where they have none, whether the padding of each was clean
-pub record Tells (fault : ℕ) (padding : Bool) (r : Verdict) : Type 0 where
-  pub number : r.fault ≡ fault
-  pub clean : r.fault ≡ 0 → r.clean ≡ padding
+-- a change's fault that was found; where it has none, whether its padding was clean, and what is known after that
+pub record Found (s : List ℕ) (fault : ℕ) (padding : Bool) (r : Result Sound Refusal) : Type 0 where
+  pub told : sound_says r ≡ answer fault padding
+  pub known : IfOk r (λ x. Known s x.window)
 
 -- a kind whose data are symbols
 unfoldable pub symbolic : Kind → Bool

@@ -104,6 +104,12 @@ passed_on k rest n a b h =
     let w = was_refused k n a h in
     rw w.0 (simp (ne_eqb k 0 w.1))
 
+-- the same refusal in the place of another answer
+pub same_refusal : {A B : Type 0} (k j n : ℕ) (a : A) (b : B) → j ≡ k → refused n ≡ answer k a → refused n ≡ answer j b
+same_refusal k j n a b e h =
+    let w = was_refused k n a h in
+    rw (e, w.0) (simp (ne_eqb k 0 w.1))
+
 -- and where they begin with none, those that follow decide
 pub goes_on : {B : Type 0} (k rest : ℕ) (r : Answer B) (b : B) → k ≡ 0 → r ≡ answer rest b → r ≡ answer (k or_else rest) b
 goes_on k rest r b z h = rw z h

@@ -17,7 +17,11 @@ codes_allowed-checked-requires c =
     )
 
 pub returns-then-not-checked : goal.returns-then-not-checked
-returns-then-not-checked c = search (symbols_wrong, not-true)
+returns-then-not-checked c =
+    symbols_wrong _ _ _ _ _ _ _ c.size_of-b.ensures.0 c.data_at-at.ensures.0 c.packed_size.ensures.0 c.if-end-at.false
+    _ c.codes_allowed-checked.ensures (not-true _ c.if-not-checked.true)
 
 pub returns : goal.returns
-returns c = search (symbols_right, not-false)
+returns c =
+    symbols_right _ _ _ _ _ _ _ c.size_of-b.ensures.0 c.data_at-at.ensures.0 c.packed_size.ensures.0 c.if-end-at.false
+    _ c.codes_allowed-checked.ensures (not-false _ c.if-not-checked.false) _ c.padding_clean.ensures
