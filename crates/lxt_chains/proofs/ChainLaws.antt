@@ -6,7 +6,7 @@ use mathlib.Core.List.{List, map}
 use lib.Dec.{lit≤}
 use native.Mathlib.Omega.{arith}
 use Rattle.lxt_format.specs.Limits.{widest_facility}
-use Rattle.lxt_format.specs.Basics.{◌or_else◌, range, select, first_fault}
+use Rattle.lxt_format.specs.Basics.{◌or_else◌, given, answer, range, select, first_fault}
 use Rattle.lxt_format.specs.BasicsLaws.{all_range, on_test}
 use Rattle.lxt_format.specs.Sections.{facility_count}
 use Rattle.lxt_format.specs.Geometry.{is_alias, msb_of, lsb_of, flags_of, kind_of_flags, width_between, geometry_allowed, geometries_allowed, facts_by, own_facts, sync_of}
@@ -17,8 +17,7 @@ use Rattle.lxt_format.specs.declared.Kind.TheVariants.{Bits, Integer, Real, Text
 use Rattle.lxt_format.specs.declared.Facts.{Facts}
 use Rattle.lxt_tables.specs.Stage.{Geometry}
 use Rattle.lxt_tables.proofs.FacilityLaws.{width_fits}
-use Rattle.lxt_changes.specs.Faults.{Tells, symbolic, Setting}
-use Rattle.lxt_changes.specs.declared.fault.Verdict.{Verdict}
+use Rattle.lxt_changes.specs.Faults.{symbolic, Setting}
 use Rattle.lxt_chains.specs.Reading.{Ready, facility_fault, facility_clean}
 use Rattle.lxt_chains.specs.declared.chains.Chains.{Chains}
 
@@ -58,9 +57,9 @@ module _ (s : List ℕ) (c : Chains) (w : Ready s c) (f : ℕ) (below : f < c.fa
           let a = facts_allowed s f facility_allowed_lem plain in
           record { within = w.within; last = w.zero; least = λ k. rw e (a.1 (rw e at k)); most = rw e a.0 }
 
-      pub fault_is : (o : ℕ) (r : Verdict) → Tells (chain_fault s (read_as facts) o) (chain_clean s (read_as facts) o) r → Tells (fault_from s f o) (clean_from s f o) r
+      pub fault_is : (o : ℕ) → answer (chain_fault s (read_as facts) o) (chain_clean s (read_as facts) o) ≡ answer (fault_from s f o) (clean_from s f o)
       unfolding fault_from clean_from
-      fault_is o r q = record { number = q.number ∙ rw (w.from, w.end, e); clean = λ z. q.clean z ∙ rw (w.from, w.end, e) }
+      fault_is o = rw (w.from, w.end, e)
 
       pub narrow : facts.width ≤ widest_facility
       narrow = rw e (facts_allowed s f facility_allowed_lem plain).0
@@ -68,16 +67,16 @@ module _ (s : List ℕ) (c : Chains) (w : Ready s c) (f : ℕ) (below : f < c.fa
 -- ---- refusals 15 and 16
 
 module _ (s : List ℕ) (f : ℕ) (a : Bool) (ea : a ≡ is_alias s f) where
-  pub alias_fault : a ≡ true → Tells (facility_fault s f) (facility_clean s f) (record { fault = 0; clean = true })
+  pub alias_fault : a ≡ true → given true ≡ answer (facility_fault s f) (facility_clean s f)
   unfolding facility_fault facility_clean
-  alias_fault h = record { number = rw (← ea, h); clean = λ z. rw (← ea, h) }
+  alias_fault h = rw (← ea, h)
 
   pub plain : a ≡ false → is_alias s f ≡ false
   plain h = sym ea ∙ h
 
-  pub root_fault : a ≡ false → (o : ℕ) → o ≡ sync_of s f → (r : Verdict) → Tells (fault_from s f o) (clean_from s f o) r → Tells (facility_fault s f) (facility_clean s f) r
+  pub root_fault : a ≡ false → (o : ℕ) → o ≡ sync_of s f → answer (fault_from s f o) (clean_from s f o) ≡ answer (facility_fault s f) (facility_clean s f)
   unfolding facility_fault facility_clean
-  root_fault h o eo r t = record { number = t.number ∙ rw (← ea, h, eo); clean = λ z. t.clean z ∙ rw (← ea, h, eo) }
+  root_fault h o eo = rw (← ea, h, eo)
 
 -- the first fault of the facilities from i on is that of the roots among them
 pub same_fault : (s : List ℕ) (i k : ℕ) → first_fault (map (facility_fault s) (range i k)) ≡ first_fault (map (λ g. fault_from s g (sync_of s g)) (select (λ g. not (is_alias s g)) (range i k)))

@@ -12,7 +12,7 @@ use lib.Dec.{ltb, leb, eqb, lit<, lit≤}
 use borrow.Author.Tests.{eqb-true, eq-eqb, ne_eqb, le-leb, lt-ltb, le-ltb, leb-true, ltb-true}
 use Rattle.lxt_format.specs.Limits.{widest_facility}
 use Rattle.lxt_format.specs.Basics.{◌unless◌, ◌or_else◌}
-use Rattle.lxt_format.specs.BasicsLaws.{on_test, or_either, and_both, neither, kept}
+use Rattle.lxt_format.specs.BasicsLaws.{on_test, or_either, and_both, neither, kept, was_given, was_refused}
 use Rattle.lxt_format.specs.Bytes.{byte_at, to_zero}
 use Rattle.lxt_format.specs.Sections.{changes_from, end_of}
 use Rattle.lxt_format.specs.Changes.{signal, command_of, data_at, command_allowed, symbol_size, packed_size, codes_allowed, padding_clean, data_size, data_allowed, change_end, fault_at}
@@ -43,10 +43,10 @@ text_ends s T z o w l =
     let at : ℕ = data_at s o in
     let size : ℕ = to_zero (slice (data_at s o) T s) in
     elim (dec_le z at) [
-      | yes q ↦ (let out : 15 ≡ (15 unless leb (at + (size + 1)) T or_else 16 unless true) = text_out s T z o at w l refl q in
+      | yes q ↦ (let out : 15 ≡ (15 unless leb (at + (size + 1)) T or_else 16 unless true) = (was_refused _ 15 (tt {0}) (text_out s T z o at w l refl q)).0 in
           on_test (leb (at + (size + 1)) T) (λ h. absurd (not_both 0 15 (lit< tt) (sym (rw h at out))))
           (λ h. le-ltb at z q ∙ sym (on_test (ltb (at + size) T) (λ k. (let f : at + size < T = ltb-true (at + size) T k in let m : at + (size + 1) ≤ T = omega arith in absurd (false≢true (sym h ∙ le-leb _ _ m)))) (λ k. k))))
-      | no n ↦ (let in' : 0 ≡ (15 unless leb (at + (size + 1)) T or_else 16 unless true) = text_in s T z o at w l refl (omega arith) in
+      | no n ↦ (let in' : 0 ≡ (15 unless leb (at + (size + 1)) T or_else 16 unless true) = sym (was_given _ (tt {0}) (tt {0}) (text_in s T z o at w l refl (omega arith))).0 in
           let h = kept 15 (leb (at + (size + 1)) T) (lit< tt) (neither _ _ (sym in')).0 in
           let m : at + (size + 1) ≤ T = leb-true (at + (size + 1)) T h in
           lt-ltb at z (omega arith) ∙ sym (lt-ltb (at + size) T (omega arith)))

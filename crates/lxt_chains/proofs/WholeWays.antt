@@ -1,31 +1,31 @@
 -- A law for each way out of the checks of a whole file.
 use Rattle.std.specs.Prelude.{if◌then◌else◌}
 use Prim.Native.Nat.{ℕ, zero, suc, ◌+◌, ◌-◌, ◌/◌, ◌≤◌, ◌<◌}
-use mathlib.Core.Path.{◌≡◌, sym, ◌∙◌}
+use mathlib.Core.Path.{◌≡◌, refl, sym, ◌∙◌}
 use mathlib.Core.Bool.{Bool, true, false}
 use mathlib.Core.List.{List, map}
 use lib.ListN.{length, get_or, get_or-eq_default}
 use native.Mathlib.Omega.{arith}
 use native.Mathlib.Decide.{dec_le, ℕ_discrete}
-use Rattle.lxt_format.specs.Basics.{range, first_fault}
-use Rattle.lxt_format.specs.BasicsLaws.{on_test, on_zero, stops, fault_next, fault_here}
+use Rattle.lxt_format.specs.Basics.{◌unless◌, ◌or_else◌, Answer, given, refused, answer, range, first_fault}
+use Rattle.lxt_format.specs.BasicsLaws.{on_test, on_zero, stops, answer_refused, was_given, passed_on, same_refusal, fault_next, fault_here}
 use Rattle.lxt_format.specs.Sections.{facility_count, end_of}
 use Rattle.lxt_format.specs.Geometry.{is_alias, roots_of}
 use Rattle.lxt_format.proofs.ChangesLaws.{faults_none}
 use Rattle.lxt_format.specs.Judge.{tables_refusal, signal_of, fault_from, chains_refusal, changes_apart, file_refusal, all_clean}
-use Rattle.lxt_format.specs.Stray.{stray_at, stray_bytes}
-use Rattle.lxt_sections.specs.Stage.{sections_of}
+use Rattle.lxt_format.specs.Stray.{stray_at, stray_bytes, stray_asked}
+use Rattle.lxt_sections.specs.Stage.{located}
 use Rattle.lxt_sections.specs.declared.Sections.{Sections}
-use Rattle.lxt_tables.specs.Stage.{after_names, tables_of}
+use Rattle.lxt_tables.specs.Stage.{after_names, tables_of, tables_read}
 use Rattle.lxt_tables.specs.Asked.{Placed}
 use Rattle.lxt_tables.specs.Parts.{Bodies}
 use Rattle.lxt_tables.specs.declared.Tables.{Tables}
-use Rattle.lxt_tables.proofs.TablesLaws.{known, refusal_is, tables_placed, names_end_of}
-use Rattle.lxt_changes.specs.Faults.{LastZero, Tells}
-use Rattle.lxt_changes.specs.declared.fault.Verdict.{Verdict}
+use Rattle.lxt_tables.proofs.TablesLaws.{known_given}
+use Rattle.lxt_tables.proofs.WholeLaws.{placed_given}
+use Rattle.lxt_changes.specs.Faults.{LastZero}
 use Rattle.lxt_chains.specs.Pending.{root_offsets}
-use Rattle.lxt_chains.specs.Reading.{Ready, Judged, facility_fault, facility_clean, root_offset, FirstOffsets, RootFault, Lowest, Between, Broken, chains_verdict}
-use Rattle.lxt_chains.specs.Sweep.{SweptAll, Ends, Counts}
+use Rattle.lxt_chains.specs.Reading.{Ready, examined_of, examined, facility_fault, facility_clean, root_offset, FirstOffsets, RootFault, Lowest, Between, Broken, chains_verdict}
+use Rattle.lxt_chains.specs.Sweep.{fitting, left, SweptAll, outcome_of, outcome}
 use Rattle.lxt_chains.specs.Groups.{Decides, Roots, ChainFault}
 use Rattle.lxt_chains.proofs.Lists.{each_range}
 use Rattle.lxt_chains.proofs.CountLaws.{counted_most}
@@ -37,19 +37,19 @@ use Rattle.lxt_chains.specs.declared.chains.Chains.{Chains}
 use Rattle.lxt_chains.specs.declared.sweep.Totals.{Totals}
 use Rattle.lxt_chains.specs.declared.whole.Outcome.{Outcome}
 
-module _ (s : List ℕ) (t : Tables) (e : t ≡ tables_of s) where
+module _ (s : List ℕ) (t : Tables) (h : given t ≡ tables_read s) where
   -- what the chains are read with
-  pub end_within : t.refusal ≡ 0 → t.end ≤ length s
-  end_within h = let k = (known s t e h).end_high in omega arith
+  pub end_within : t.end ≤ length s
+  end_within = let k = (known_given s t h).end_high in omega arith
 
-  pub ready : t.refusal ≡ 0 → (z : ℕ) → LastZero s t.end z
+  pub ready : (z : ℕ) → LastZero s t.end z
       → Ready s (record { facilities = t.facilities; from = t.changes; end = t.end; zero = z; geometry = t.geometry; sync = t.sync })
-  ready h z l =
-      let k = known s t e h in
+  ready z l =
+      let k = known_given s t h in
       record {
         from = k.changes;
         end = k.end;
-        within = end_within h;
+        within = end_within;
         short = k.long;
         zero = l;
         geometry = k.geometry_at;
@@ -58,67 +58,72 @@ module _ (s : List ℕ) (t : Tables) (e : t ≡ tables_of s) where
         most = k.few;
       }
 
-  -- the tables are refused
-  pub tables_refused : (t.refusal ≡ 0 → ⊥) → Judged s (record { refusal = t.refusal; clean = false; tables = t })
-  unfolding file_refusal
-  tables_refused n =
-      record {
-        refusal = refusal_is s t e ∙ sym (stops (tables_refusal s) _ (λ z. n (refusal_is s t e ∙ z)));
-        clean = λ z. absurd (n z);
-        tables = e;
-      }
-
-  pub tables_accepted : t.refusal ≡ 0 → (parts : List ℕ) (r : Outcome) → Ends s parts r → Judged s (record { refusal = r.refusal; clean = r.clean; tables = t })
+  -- once the tables have passed, the changes decide
+  from_chains : file_refusal s ≡ chains_verdict s
   unfolding file_refusal chains_verdict
-  tables_accepted h parts r a =
-      let z : tables_refusal s ≡ 0 = sym (refusal_is s t e) ∙ h in
-      record { refusal = a.refusal ∙ rw z; clean = a.clean; tables = e }
+  from_chains = let z : tables_refusal s ≡ 0 = (known_given s t h).refusal in rw z
 
--- ---- stray bytes
+  pub chains_refused : {A : Type 0} (a : A) (parts : List ℕ) (n : ℕ) → refused n ≡ outcome s parts → refused n ≡ answer (file_refusal s) a
+  chains_refused a parts n q = same_refusal (chains_verdict s) (file_refusal s) n (outcome_of s parts) a from_chains q
 
-module _ (s : List ℕ) (t : Tables) (e : t ≡ tables_of s) where
-  pub count_refused : (t.refusal ≡ 0 → ⊥) → Counts s (record { refusal = t.refusal; stray = 0 })
-  count_refused n = record { refusal = (tables_refused s t e n).refusal; stray = λ z. absurd (n z) }
+  module _ (parts : List ℕ) (r : Outcome) (q : given r ≡ outcome s parts) where
+    no_refusal : file_refusal s ≡ 0
+    no_refusal = from_chains ∙ (was_given (chains_verdict s) (outcome_of s parts) r q).0
 
-  pub count_asks : (p : Sections) → p ≡ sections_of s → t.refusal ≡ 0 → Placed s p × (t.names_end ≡ after_names s)
-  count_asks p ep h = let z = sym (refusal_is s t e) ∙ h in (tables_placed s p ep z, names_end_of s t e z)
+    pub accepted : given (record { clean = r.clean; tables = t }) ≡ examined s
+    unfolding examined_of outcome_of
+    accepted =
+        let w = (was_given (chains_verdict s) (outcome_of s parts) r q).1 in
+        let e : t ≡ tables_of s = (was_given (tables_refusal s) (tables_of s) t h).1 in
+        rw (no_refusal, w, e)
 
-  module _ (h : t.refusal ≡ 0) (parts : List ℕ) (r : Outcome) (a : Ends s parts r) where
-    pub count_broken : (r.refusal ≡ 0 → ⊥) → Counts s (record { refusal = r.refusal; stray = 0 })
-    count_broken n = record { refusal = (tables_accepted s t e h parts r a).refusal; stray = λ z. absurd (n z) }
+    -- ---- stray bytes
 
-    module _ (bodies : Bodies s parts) (z : r.refusal ≡ 0) where
+    module _ (bodies : Bodies s parts) where
       counted_is : r.free ≡ stray_bytes s
-      counted_is = a.free z ∙ stray_is s parts bodies (a.fits z) (sym (refusal_is s t e) ∙ h)
+      unfolding outcome_of
+      counted_is =
+          let w = was_given (chains_verdict s) (outcome_of s parts) r q in
+          let fits : fitting s (end_of s) (left s (root_offsets s)) ≡ true = on_test (fitting s (end_of s) (left s (root_offsets s))) (λ y. y) (λ y. absurd (unfit s y w.0)) in
+          rw w.1 (stray_is s parts bodies fits (known_given s t h).refusal)
 
       pub count_fits : r.free < 4294967296
       unfolding stray_bytes
       count_fits =
-          let k = known s t e h in
+          let k = known_given s t h in
           omega (arith, counted_is, counted_most (stray_at s) 4 (end_of s), k.end, k.end_high, k.long)
 
-      pub count_told : Counts s (record { refusal = 0; stray = r.free })
-      count_told = record { refusal = sym z ∙ (tables_accepted s t e h parts r a).refusal; stray = λ _. counted_is }
+      pub count_told : given r.free ≡ stray_asked s
+      unfolding stray_asked
+      count_told = rw (no_refusal, counted_is)
+
+-- the tables are refused, or the sections
+pub tables_refused : {A : Type 0} (s : List ℕ) (a : A) (n : ℕ) → refused n ≡ tables_read s → refused n ≡ answer (file_refusal s) a
+unfolding file_refusal
+tables_refused s a n h = passed_on (tables_refusal s) (chains_refusal s or_else 17 unless changes_apart s) n (tables_of s) a h
+
+pub count_asks : (s : List ℕ) (p : Sections) (t : Tables) → given p ≡ located s → given t ≡ tables_read s → Placed s p × (t.names_end ≡ after_names s)
+count_asks s p t hp ht = (placed_given s p hp, (known_given s t ht).names_end_lem)
 
 -- ---- refusals 15 to 17
 
 module _ (s parts : List ℕ) (r : Totals) (w : SweptAll s parts (root_offsets s) r) where
-  pub swept_passes : r.kept ≡ true → Ends s parts (record { refusal = 0; clean = r.clean; free = r.free })
-  swept_passes h = record {
-    refusal = sym (fits_pass s (sym w.kept ∙ h));
-    clean = λ _. w.clean h ∙ clean_is s;
-    fits = λ _. sym w.kept ∙ h;
-    free = λ _. w.free h;
-  }
+  pub swept_passes : r.kept ≡ true → given (record { clean = r.clean; free = r.free }) ≡ outcome s parts
+  unfolding outcome_of
+  swept_passes h =
+      let z : chains_verdict s ≡ 0 = fits_pass s (sym w.kept ∙ h) in
+      rw (z, w.clean h ∙ clean_is s, w.free h)
 
   module _ (h : r.kept ≡ false) where
     pub swept_breaks : Broken s
     swept_breaks = unfit s (sym w.kept ∙ h)
 
-    pub swept_refused : (v : Verdict) → Tells (chains_verdict s) (all_clean s) v → Ends s parts (record { refusal = v.fault; clean = v.clean; free = 0 })
-    swept_refused v t =
-        let none : v.fault ≡ 0 → ⊥ = (λ z. swept_breaks (sym t.number ∙ z)) in
-        record { refusal = t.number; clean = t.clean; fits = λ z. absurd (none z); free = λ z. absurd (none z) }
+    pub swept_refused : (n : ℕ) → refused n ≡ answer (chains_verdict s) (all_clean s) → refused n ≡ outcome s parts
+    swept_refused n q = same_refusal (chains_verdict s) (chains_verdict s) n (all_clean s) (outcome_of s parts) refl q
+
+    -- what finds the refusal of a broken file finds one
+    pub swept_never : {P : Type 0} (b : Bool) → given b ≡ answer (chains_verdict s) (all_clean s) → P
+    swept_never b q = absurd (swept_breaks (was_given (chains_verdict s) (all_clean s) b q).0)
 
 -- the first fault of a range is that of the first number that has one
 first_at : (fault : ℕ → ℕ) (i k f : ℕ) → i ≤ f → f < i + k → ((g : ℕ) → i ≤ g → g < f → fault g ≡ 0) → (fault f ≡ 0 → ⊥) → first_fault (map fault (range i k)) ≡ fault f
@@ -139,31 +144,30 @@ all_faultless s n e h =
 module _ (s : List ℕ) (c : Chains) (ready : Ready s c) (broken : Broken s) where
   module _ (r : Bool) (d : Decides (RootFault s c.facilities) r) where
     -- no root has a fault: two changes share a byte
-    pub refused_17 : r ≡ false → Tells (chains_verdict s) (all_clean s) (record { fault = 17; clean = false })
+    pub refused_17 : r ≡ false → refused 17 ≡ answer (chains_verdict s) (all_clean s)
     unfolding chains_verdict
     refused_17 h =
         let none : chains_refusal s ≡ 0 =
         all_faultless s c.facilities ready.geometry.count
         (λ f b. on_zero (facility_fault s f) (λ z. z) (λ p. absurd (d.no h (record { number = f; first = b; fault = λ z. omega arith })))) in
         let shared : changes_apart s ≡ false = on_test (changes_apart s) (λ e. absurd (broken (unfold chains_verdict in rw (none, e)))) (λ e. e) in
-        record { number = rw (none, shared); clean = λ z. absurd (omega arith) }
+        rw (none, shared)
 
     pub refused_some : r ≡ true → RootFault s c.facilities
     refused_some h = d.yes h
 
   -- the first fault is that of the lowest root that has one
-  pub refused_first : (f : ℕ) → Lowest s c.facilities f → (v : Verdict) → Tells (facility_fault s f) (facility_clean s f) v → Tells (chains_verdict s) (all_clean s) v
+  pub refused_first : (f : ℕ) → Lowest s c.facilities f → (r : Answer Bool) → r ≡ answer (facility_fault s f) (facility_clean s f) → r ≡ answer (chains_verdict s) (all_clean s)
   unfolding chains_verdict chains_refusal roots_of
-  refused_first f w v t =
+  refused_first f w r q =
       let n = ready.geometry.count in
       let i = w.inside in
       let first : first_fault (map (facility_fault s) (range 0 (facility_count s))) ≡ facility_fault s f =
       first_at (facility_fault s) 0 (facility_count s) f (omega arith) (omega arith) (λ g a b. w.none g b) w.fault in
       let number : chains_refusal s ≡ facility_fault s f = sym (same_fault s 0 (facility_count s)) ∙ first in
-      record {
-        number = t.number ∙ sym (stops (chains_refusal s) _ (λ z. w.fault (sym number ∙ z)) ∙ number);
-        clean = λ z. absurd (w.fault (sym t.number ∙ z));
-      }
+      let whole : chains_verdict s ≡ facility_fault s f = stops (chains_refusal s) _ (λ z. w.fault (sym number ∙ z)) ∙ number in
+      let here : r ≡ refused (facility_fault s f) = q ∙ answer_refused (facility_fault s f) (facility_clean s f) w.fault in
+      here ∙ sym (answer_refused (chains_verdict s) (all_clean s) (λ z. w.fault (sym whole ∙ z)) ∙ rw whole)
 
 -- ---- the lowest root with a fault
 

@@ -2,7 +2,7 @@
 use Rattle.std.specs.Prelude.{ℕ, ◌≤◌, ◌<◌, ◌≡◌, Bool, true, List, length, get_or, if◌then◌else◌}
 use Rattle.lxt_format.specs.Limits.{longest_file, most_facilities}
 use Rattle.lxt_format.specs.Sections.{end_of, changes_from}
-use Rattle.lxt_format.specs.Basics.{◌unless◌, ◌or_else◌}
+use Rattle.lxt_format.specs.Basics.{◌unless◌, ◌or_else◌, Answer, answer}
 use Rattle.lxt_format.specs.Geometry.{is_alias, geometries_allowed, sync_of}
 use Rattle.lxt_format.specs.Judge.{fault_from, clean_from, chains_refusal, changes_apart, file_refusal, all_clean}
 use Rattle.lxt_format.specs.Walk.{sort}
@@ -80,8 +80,9 @@ chains_verdict s = chains_refusal s or_else 17 unless changes_apart s
 abbrev pub Broken : List ℕ → Type 0
 Broken s = chains_verdict s ≡ 0 → ⊥
 
--- a judged file: its refusal; where it has none, whether its padding was clean; and its tables
-pub record Judged (s : List ℕ) (r : Examined) : Type 0 where
-  pub refusal : r.refusal ≡ file_refusal s
-  pub clean : r.refusal ≡ 0 → r.clean ≡ all_clean s
-  pub tables : r.tables ≡ tables_of s
+-- a judged file: whether its padding was clean, and its tables; or the refusal
+unfoldable pub examined_of : List ℕ → Examined
+examined_of s = record { clean = all_clean s; tables = tables_of s }
+
+abbrev pub examined : List ℕ → Answer Examined
+examined s = answer (file_refusal s) (examined_of s)

@@ -1,11 +1,10 @@
 -- Checks 15, 16 and 17 together, over changes by falling offset.
 use Rattle.std.specs.Prelude.{ℕ, ◌+◌, ◌-◌, ◌≤◌, ◌<◌, ◌≡◌, Bool, true, false, ◌&&◌, List, [], ◌∷◌, length, get_or, leb, eqb}
-use Rattle.lxt_format.specs.Basics.{all}
+use Rattle.lxt_format.specs.Basics.{Answer, answer, all}
 use Rattle.lxt_format.specs.Sections.{end_of}
 use Rattle.lxt_format.specs.Geometry.{is_alias, own_facts}
 use Rattle.lxt_format.specs.Changes.{fault_at, clean_at}
-use Rattle.lxt_format.specs.Judge.{signal_of, end_at, all_clean, file_refusal}
-use Rattle.lxt_format.specs.Stray.{stray_bytes}
+use Rattle.lxt_format.specs.Judge.{signal_of, end_at, all_clean}
 use Rattle.lxt_format.specs.Walk.{sort}
 use Rattle.lxt_format.specs.declared.Pair.{Pair}
 use Rattle.lxt_chains.specs.Pending.{pair_of, pending_changes, root_offsets}
@@ -18,7 +17,6 @@ use Rattle.lxt_changes.specs.declared.keep.Kept.{Kept}
 use Rattle.lxt_chains.specs.declared.sweep.Swept.{Swept}
 use Rattle.lxt_chains.specs.declared.sweep.Totals.{Totals}
 use Rattle.lxt_chains.specs.declared.whole.Outcome.{Outcome}
-use Rattle.lxt_chains.specs.declared.stray.Counted.{Counted}
 
 -- a change breaks no rule of 15 or 16 and ends at or below a bound
 unfoldable pub keeps : List ℕ → ℕ → Pair → Bool
@@ -95,14 +93,9 @@ pub record SweptAll (s parts os : List ℕ) (r : Totals) : Type 0 where
   pub clean : r.kept ≡ true → r.clean ≡ cleanly s (left s os)
   pub free : r.kept ≡ true → r.free ≡ free_around s parts (end_of s) (left s os)
 
--- refusals 15 to 17 of a file; where there is none, whether its padding was clean and how many of its bytes are free
-pub record Ends (s parts : List ℕ) (r : Outcome) : Type 0 where
-  pub refusal : r.refusal ≡ chains_verdict s
-  pub clean : r.refusal ≡ 0 → r.clean ≡ all_clean s
-  pub fits : r.refusal ≡ 0 → fitting s (end_of s) (left s (root_offsets s)) ≡ true
-  pub free : r.refusal ≡ 0 → r.free ≡ free_around s parts (end_of s) (left s (root_offsets s))
+-- what is found of the changes of a file: whether their padding was clean, and how many bytes are free; or the refusal, 15 to 17
+unfoldable pub outcome_of : List ℕ → List ℕ → Outcome
+outcome_of s parts = record { clean = all_clean s; free = free_around s parts (end_of s) (left s (root_offsets s)) }
 
--- the refusal of a file; where there is none, how many of its bytes are stray
-pub record Counts (s : List ℕ) (r : Counted) : Type 0 where
-  pub refusal : r.refusal ≡ file_refusal s
-  pub stray : r.refusal ≡ 0 → r.stray ≡ stray_bytes s
+abbrev pub outcome : List ℕ → List ℕ → Answer Outcome
+outcome s parts = answer (chains_verdict s) (outcome_of s parts)

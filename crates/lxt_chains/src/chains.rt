@@ -1,12 +1,13 @@
 // One root's chain: refusals 15 and 16, and whether its padding is 0.
 ghost use Rattle.std.specs.Prelude.{◌≡◌, true, false, ◌<◌};
+ghost use Rattle.lxt_format.specs.Basics.{answer};
 ghost use Rattle.lxt_format.specs.Geometry.{is_alias};
 ghost use Rattle.lxt_format.specs.Judge.{fault_from, clean_from};
+ghost use Rattle.lxt_format.specs.Answers.{says};
 ghost use Rattle.lxt_chains.specs.Reading.{Ready, facility_fault, facility_clean};
-ghost use Rattle.lxt_changes.specs.Faults.{Tells};
 
 use lxt_changes::fault;
-use lxt_changes::fault::Verdict;
+use lxt_format::Refusal;
 use lxt_tables::geometry;
 
 // What the chains of a file are read with: n, C, T, one past the last zero before T, and where the
@@ -21,26 +22,31 @@ pub struct Chains {
     pub sync: usize,
 }
 
-// The verdict on the chain that starts at `o`, read with the kind and width of the root `f`.
-fn fault_from(file: &[u8], c: Chains, f: u32, o: u32) -> Verdict
+// The fault of the chain that starts at `o`, read with the kind and width of the root `f`, or whether its padding
+// is 0.
+fn fault_from(file: &[u8], c: Chains, f: u32, o: u32) -> Result<bool, Refusal>
     requires { Ready file.now c × ((f < c.facilities) × (is_alias file.now f ≡ false)) }
-    ensures { Tells (fault_from file.now f o) (clean_from file.now f o) result }
+    ensures { says result ≡ answer (fault_from file.now f o) (clean_from file.now f o) }
 {
     let facts = geometry::own_facts(file, c.geometry, c.facilities, f);
-    let kind = facts.kind;
-    fault::first_fault(file, c.from, c.end, c.zero, kind, facts.width, o as usize)
+    fault::first_fault(
+        file,
+        c.from,
+        c.end,
+        c.zero,
+        facts.kind,
+        facts.width,
+        o as usize,
+    )
 }
 
-// The verdict on a facility's own chain; an alias has none.
-pub fn facility_fault(file: &[u8], c: Chains, f: u32) -> Verdict
+// The same of a facility's own chain; an alias has none.
+pub fn facility_fault(file: &[u8], c: Chains, f: u32) -> Result<bool, Refusal>
     requires { Ready file.now c × (f < c.facilities) }
-    ensures { Tells (facility_fault file.now f) (facility_clean file.now f) result }
+    ensures { says result ≡ answer (facility_fault file.now f) (facility_clean file.now f) }
 {
     if geometry::is_alias(file, c.geometry, c.facilities, f) {
-        return Verdict {
-            fault: 0,
-            clean: true,
-        };
+        return Ok(true);
     }
     let start = geometry::sync_of(file, c.sync, c.facilities, f);
     fault_from(file, c, f, start)

@@ -1,5 +1,6 @@
-use Rattle.lxt_chains.proofs.ChainLaws.{alias_fault, plain, root_fault}
+use mathlib.Core.Path.{◌∙◌}
 use borrow.Author.Rules.{rules}
+use Rattle.lxt_chains.proofs.ChainLaws.{alias_fault, plain, root_fault}
 use Rattle.lxt_chains.proofs.chains.facility_fault.Goals as goal
 
 pub returns-then-is_alias : goal.returns-then-is_alias
@@ -9,4 +10,4 @@ pub fault_from-requires : goal.fault_from-requires
 fault_from-requires c = (search rules, (search rules, search plain))
 
 pub returns : goal.returns
-returns c = search root_fault
+returns c = c.fault_from.ensures ∙ root_fault _ _ _ c.is_alias.ensures c.if-is_alias.false _ c.sync_of-start.ensures

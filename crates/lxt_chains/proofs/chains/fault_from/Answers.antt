@@ -1,3 +1,4 @@
+use mathlib.Core.Path.{◌∙◌}
 use Rattle.lxt_chains.proofs.ChainLaws.{facts_ask, setting, fault_is}
 use Rattle.lxt_chains.proofs.chains.fault_from.Goals as goal
 
@@ -11,4 +12,5 @@ pub first_fault-requires : goal.first_fault-requires
 first_fault-requires c = search setting
 
 pub returns : goal.returns
-returns c = search fault_is
+returns c =
+    c.first_fault.ensures ∙ fault_is _ _ c.requires.0 _ c.requires.1.0 c.requires.1.1 _ c.own_facts-facts.ensures _

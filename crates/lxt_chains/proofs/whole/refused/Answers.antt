@@ -1,13 +1,12 @@
 use borrow.Author.Rules.{rules}
-use borrow.Author.Tests.{not-true, not-false}
 use Rattle.lxt_chains.proofs.WholeWays.{refused_17, refused_some, refused_first}
 use Rattle.lxt_chains.proofs.whole.refused.Goals as goal
 
 pub returns-then-not-any_of_first : goal.returns-then-not-any_of_first
-returns-then-not-any_of_first c = search (refused_17, not-true)
+returns-then-not-any_of_first c = search refused_17
 
 pub lowest-f-requires : goal.lowest-f-requires
-lowest-f-requires c = (search rules, search (refused_some, not-false))
+lowest-f-requires c = (search rules, search refused_some)
 
 pub facility_fault-requires : goal.facility_fault-requires
 facility_fault-requires c = (search rules, c.lowest-f.ensures.inside)
