@@ -1,7 +1,7 @@
 -- A law for each way out of the functions on the frame.
 use Prim.Native.Nat.{ℕ, ◌≤◌}
 use mathlib.Core.Path.{◌≡◌, sym, ◌∙◌}
-use mathlib.Core.Bool.{Bool, true, false, ◌&&◌}
+use mathlib.Core.Bool.{Bool, true, false, ◌&&◌, and_assoc}
 use mathlib.Core.List.{List}
 use lib.ListN.{length}
 use lib.Dec.{leb, eqb}
@@ -13,9 +13,9 @@ use Rattle.lxt_format.specs.Sections.{length_allowed, starts_right, ends_right}
 use Rattle.lxt_sections.specs.Stage.{frame_refusal}
 
 module _ (s : List ℕ) where
-  pub starts : (v : ℕ) → v ≡ u16_at s 2 → (eqb (byte_at s 0) 0x01 && (eqb (byte_at s 1) 0x38 && leb v 4)) ≡ starts_right s
+  pub starts : (v : ℕ) → v ≡ u16_at s 2 → (eqb (byte_at s 0) 0x01 && eqb (byte_at s 1) 0x38 && leb v 4) ≡ starts_right s
   unfolding starts_right
-  starts v e = rw e
+  starts v e = rw (e, and_assoc)
 
   module _ (a : Bool) (ea : a ≡ (leb 6 (length s) && leb (length s) 16777216)) where
     pub outside : a ≡ false → refused 1 ≡ answer (frame_refusal s) (tt {0})

@@ -6,7 +6,8 @@ use mathlib.Core.List.{List}
 use native.Mathlib.Nat.{le_refl, mul-le-mul}
 use native.Mathlib.Omega.{arith}
 use borrow.Author.Tests.{lt-ltb, le-ltb}
-use Rattle.lxt_format.specs.Bytes.{number_at, u32_at}
+use Rattle.lxt_format.specs.Bytes.{byte_at, number_at, u32_at}
+use Rattle.lxt_format.specs.BytesLaws.{u32_bytes, number_8}
 use Rattle.lxt_format.specs.Sections.{time_bytes, times_size}
 use Rattle.lxt_format.specs.BiasedTimes.{bias, biased_bytes}
 
@@ -50,8 +51,17 @@ pub deltas_are : (s : List ℕ) (k start steps i p t : ℕ) (at : ℕ) → at �
 deltas_are s k start steps i p t at ea ep to et ex = (ep ∙ rw ea, ex ∙ rw et)
 
 -- the number in eight bytes
-pub word : (s : List ℕ) (at x y : ℕ) → x ≡ u32_at s at → y ≡ u32_at s (at + 4) → number_at 8 s at ≡ u32_at s at * 4294967296 + u32_at s (at + 4) → x * 4294967296 + y ≡ number_at 8 s at
-word s at x y ex ey e = omega (arith, e, ex, ey)
+pub eight : (s : List ℕ) (at x : ℕ)
+    → x ≡ byte_at s at * 72057594037927936 + byte_at s (at + 1) * 281474976710656 + byte_at s (at + 2) * 1099511627776 + byte_at s (at + 3) * 4294967296
+    + byte_at s (at + 4) * 16777216 + byte_at s (at + 5) * 65536 + byte_at s (at + 6) * 256 + byte_at s (at + 7)
+    → x ≡ number_at 8 s at
+eight s at x e =
+    let at_5 : at + 4 + 1 ≡ at + 5 = omega arith in
+    let at_6 : at + 4 + 2 ≡ at + 6 = omega arith in
+    let at_7 : at + 4 + 3 ≡ at + 7 = omega arith in
+    let low : u32_at s (at + 4) ≡ byte_at s (at + 4) * 16777216 + byte_at s (at + 5) * 65536 + byte_at s (at + 6) * 256 + byte_at s (at + 7) =
+    rw (← at_5, ← at_6, ← at_7) (u32_bytes s (at + 4)) in
+    omega (arith, number_8 s at, u32_bytes s at)
 
 -- the time of bytes, with the bias
 pub biased_low : (x : ℕ) → x < bias → bias + x ≡ biased_bytes x

@@ -1,9 +1,11 @@
 -- A law for each way out of the functions on the places of the sections.
-use Prim.Native.Nat.{ℕ, ◌+◌, ◌*◌, ◌≤◌, ◌<◌}
-use mathlib.Core.Path.{◌≡◌, refl, sym, ◌∙◌}
-use mathlib.Core.Bool.{Bool, true, false, not, ◌&&◌, ◌||◌, and-false, and-true, or-false}
+use Prim.Native.Nat.{ℕ, zero, suc, ◌+◌, ◌*◌, ◌≤◌, ◌<◌}
+use mathlib.Core.Path.{◌≡◌, refl, ap, sym, ◌∙◌}
+use mathlib.Core.Bool.{Bool, true, false, not, ◌&&◌, ◌||◌, and-false, and-true, and_assoc, or-false}
 use mathlib.Core.List.{List}
-use lib.ListN.{length, get_or}
+use lib.ListN.{length, get_or, take, drop}
+use lib.Seq.{drop-cons}
+use Rattle.std.specs.List.{list_any}
 use lib.Dec.{leb, eqb}
 use native.Mathlib.Omega.{arith}
 use native.Mathlib.Decide.{dec_le}
@@ -35,6 +37,12 @@ pub not_listed : (s : List ℕ) → None ≡ listed_of s → (listing_of s).list
 unfolding listed_of
 not_listed s e = on_test (listing_of s).listed (λ h. absurd (none-some _ (rw h at e))) (λ h. h)
 
+-- a test holds of one of the n elements from `a` on
+pub any_part : (p : ℕ → Bool) (t : List ℕ) (n a : ℕ) → a + n ≤ length t → list_any p (take n (drop a t)) ≡ any (λ i. p (get_or t i 0)) (range a n)
+unfolding any range
+any_part p t zero a h = refl
+any_part p t (suc n) a h = let l : a < length t = omega arith in rw (drop-cons t a 0) (ap (λ b. p (get_or t a 0) || b) (any_part p t n (suc a) (omega arith)))
+
 -- ---- refusal 8
 
 pub body_is : (end start size : ℕ) (z : Bool) → z ≡ inside end start size → (not (not (eqb start 0)) || z) ≡ body_in end start size
@@ -44,9 +52,9 @@ pub parts : (p : Places) (n size : ℕ) (a b c d e f g h : Bool)
     → a ≡ body_in p.end p.sync (4 * n) → b ≡ body_in p.end p.names 8 → c ≡ body_in p.end p.geometry (16 * n)
     → d ≡ body_in p.end p.timescale 1 → e ≡ body_in p.end p.times size → f ≡ body_in p.end p.initial 1
     → g ≡ body_in p.end p.wide_times size → h ≡ inside p.end p.changes 0
-    → ((a && (b && (c && (d && (e && (f && true)))))) && (g && h)) ≡ all_inside p n size
+    → (a && b && c && d && e && f && g && h) ≡ all_inside p n size
 unfolding all_inside
-parts p n size a b c d e f g h ea eb ec ed ee ef eg eh = rw (ea, eb, ec, ed, ee, ef, eg, eh)
+parts p n size a b c d e f g h ea eb ec ed ee ef eg eh = rw (ea, eb, ec, ed, ee, ef, eg, eh) (simp (and_assoc, and-true))
 
 all_inside_is : (s : List ℕ) → all_inside (places_of s) (facility_count s) (times_size (wide_times s) (time_count s)) ≡ bodies_inside s
 unfolding all_inside places_of bodies_inside body_inside body_size all range present

@@ -1,10 +1,12 @@
 -- The laws of the search for a zero.
-use Prim.Native.Nat.{ℕ, suc, ◌+◌, ◌-◌, ◌≤◌, ◌<◌}
+use Prim.Native.Nat.{ℕ, suc, ◌+◌, ◌-◌, ◌≤◌, ◌<◌, max}
 use mathlib.Core.Path.{◌≡◌, refl}
 use mathlib.Core.List.{List, ◌∷◌}
 use lib.ListN.{length, take, drop_of_length-le}
 use lib.Seq.{slice, slice-cons, length-slice, length-take-le}
+use native.Mathlib.Decide.{dec_le}
 use native.Mathlib.Omega.{arith}
+use Rattle.std.proofs.Math.Nat.{max-eq_left, max-eq_right}
 use native.Mathlib.Numerals.{add-one}
 use Rattle.lxt_format.specs.Bytes.{byte_at, to_zero}
 use Rattle.lxt_format.specs.BytesLaws.{zero_later, to_zero_le}
@@ -28,12 +30,16 @@ nothing_left s end p h l =
     rw (drop_of_length-le (take end s) g)
 
 module _ (s : List ℕ) (from end p : ℕ) (w : Passed s from end p) where
-  -- the end is met
-  pub none_met : end ≤ p → (p ≡ from + to_zero (slice from end s)) × (p - from ≤ end - from)
-  none_met l =
+  -- the end is met, or `from` lies above it
+  pub none_met : end ≤ p → (from ≤ end → p ≤ end) → (m : ℕ) → m ≡ max from end → (m ≡ from + to_zero (slice from end s)) × (m - from ≤ end - from)
+  none_met l u m h =
       let e = w.left in
       let z = nothing_left s end p w.fits l in
-      (omega arith, omega (arith, to_zero_le (slice from end s), length-slice from end s w.fits))
+      let g = nothing_left s end from w.fits in
+      elim (dec_le from end) [
+        | yes r ↦ (let k : max from end ≡ end = max-eq_right r in (omega arith, omega arith))
+        | no r ↦ (let q : end ≤ from = omega arith in let k : max from end ≡ from = max-eq_left q in (omega arith, omega arith))
+      ]
 
   module _ (l : p < end) where
     -- the next byte, and those after it

@@ -2,6 +2,7 @@
 #![tactic(auto)]
 
 ghost use Rattle.std.specs.Prelude.{◌≡◌, true, false, not, ◌&&◌, ◌||◌, ◌+◌, ◌*◌, ◌≤◌, ◌<◌, eqb, length, get_or, set, replicate};
+ghost use Rattle.std.specs.List.{list_any};
 ghost use Rattle.lxt_format.specs.Bytes.{number_at, u16_at, u32_at};
 ghost use Rattle.lxt_format.specs.Basics.{range, any};
 ghost use Rattle.lxt_format.specs.Sections.{starts_right, ends_right, inside};
@@ -17,19 +18,7 @@ pub mod zeros;
 pub fn wide(x: u8) -> u32
     ensures { (result ≡ x) × (result < 256) }
 {
-    x as u32
-}
-
-fn join16(a: u8, b: u8) -> u32
-    ensures { (result ≡ a * 256 + b) × (result < 65536) }
-{
-    wide(a) * 256 + wide(b)
-}
-
-fn join32(a: u8, b: u8, c: u8, d: u8) -> u32
-    ensures { result ≡ a * 16777216 + b * 65536 + c * 256 + d }
-{
-    wide(a) * 16777216 + wide(b) * 65536 + wide(c) * 256 + wide(d)
+    u32::from(x)
 }
 
 // The number in the two bytes from `at` on.
@@ -37,7 +26,7 @@ pub fn be16(file: &[u8], at: usize) -> u32
     requires { at + 2 ≤ length file.now }
     ensures { (result ≡ u16_at file.now at) × (result < 65536) }
 {
-    join16(file[at], file[at + 1])
+    u32::from(u16::from_be_bytes([file[at], file[at + 1]]))
 }
 
 // The number in the four bytes from `at` on.
@@ -45,7 +34,7 @@ pub fn be32(file: &[u8], at: usize) -> u32
     requires { at + 4 ≤ length file.now }
     ensures { result ≡ u32_at file.now at }
 {
-    join32(file[at], file[at + 1], file[at + 2], file[at + 3])
+    u32::from_be_bytes([file[at], file[at + 1], file[at + 2], file[at + 3]])
 }
 
 // The number in the eight bytes from `at` on.
@@ -53,14 +42,23 @@ pub fn be64(file: &[u8], at: usize) -> u64
     requires { at + 8 ≤ length file.now }
     ensures { result ≡ number_at 8 file.now at }
 {
-    be32(file, at) as u64 * 4294967296 + be32(file, at + 4) as u64
+    u64::from_be_bytes([
+        file[at],
+        file[at + 1],
+        file[at + 2],
+        file[at + 3],
+        file[at + 4],
+        file[at + 5],
+        file[at + 6],
+        file[at + 7],
+    ])
 }
 
 fn starts_right(file: &[u8]) -> bool
     requires { 6 ≤ length file.now }
     ensures { result ≡ starts_right file.now }
 {
-    (file[0] == 0x01) & ((file[1] == 0x38) & (be16(file, 2) <= 4))
+    (file[0] == 0x01) & (file[1] == 0x38) & (be16(file, 2) <= 4)
 }
 
 fn ends_right(file: &[u8]) -> bool
@@ -149,17 +147,17 @@ pub struct Places {
     pub time_zero: u32,
 }
 
+fn any_counts(values: &[u32]) -> bool
+    ensures { result ≡ list_any (λ v. not (eqb v 0)) values.now }
+{
+    values.iter().any(|v| *v != 0)
+}
+
 // One of the tags 0A to 12 counts.
 fn any_compressed(t: [u32; TAGS]) -> bool
     ensures { result ≡ any (λ tag. not (eqb (get_or t tag 0) 0)) (range 0x0A 9) }
 {
-    (t[10] != 0)
-        | ((t[11] != 0)
-            | ((t[12] != 0)
-                | ((t[13] != 0)
-                    | ((t[14] != 0)
-                        | ((t[15] != 0)
-                            | ((t[16] != 0) | ((t[17] != 0) | ((t[18] != 0) | false))))))))
+    any_counts(&t[0x0A..0x13])
 }
 
 fn placed(l: Listing) -> Places
@@ -206,7 +204,7 @@ pub fn lies(end: usize, start: u32, size: usize) -> bool
     requires { size < 1099511627776 }
     ensures { result ≡ inside end start size }
 {
-    (4 <= start) & (start as usize + size <= end)
+    4 <= start && start as usize + size <= end
 }
 
 // A section is absent, or its body lies inside.
@@ -214,7 +212,7 @@ fn body(end: usize, start: u32, size: usize) -> bool
     requires { size < 1099511627776 }
     ensures { result ≡ (not (not (eqb start 0)) || inside end start size) }
 {
-    !(start != 0) | lies(end, start, size)
+    start == 0 || lies(end, start, size)
 }
 
 // All bodies lie inside, with `n` facilities and times of `size` bytes, and C is from 4 to T.
@@ -222,12 +220,14 @@ fn all_inside(p: Places, n: u32, size: usize) -> bool
     requires { size < 1099511627776 }
     ensures { result ≡ all_inside p n size }
 {
-    (body(p.end, p.sync, 4 * (n as usize))
-        & (body(p.end, p.names, 8)
-            & (body(p.end, p.geometry, 16 * (n as usize))
-                & (body(p.end, p.timescale, 1)
-                    & (body(p.end, p.times, size) & (body(p.end, p.initial, 1) & true))))))
-        & (body(p.end, p.wide_times, size) & lies(p.end, p.changes, 0))
+    body(p.end, p.sync, 4 * (n as usize))
+        & body(p.end, p.names, 8)
+        & body(p.end, p.geometry, 16 * (n as usize))
+        & body(p.end, p.timescale, 1)
+        & body(p.end, p.times, size)
+        & body(p.end, p.initial, 1)
+        & body(p.end, p.wide_times, size)
+        & lies(p.end, p.changes, 0)
 }
 
 // The sections of a file that refusals 1 to 9 pass: n, m, C, T, where each section starts (0 where it is

@@ -58,7 +58,7 @@ pub fn time_at(file: &[u8], at: usize, wide: bool, i: usize) -> u64
     if wide {
         return be64(file, at + 8 * i);
     }
-    be32(file, at + 4 * i) as u64
+    u64::from(be32(file, at + 4 * i))
 }
 
 // 2^63: what is added to a time, so that times in their order are numbers from 0 on.

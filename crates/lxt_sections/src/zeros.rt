@@ -9,12 +9,10 @@ pub fn zero_from(file: &[u8], from: usize, end: usize) -> usize
     requires { end ≤ length file.now }
     ensures { (result ≡ from + to_zero (slice from end file.now)) × (result - from ≤ end - from) }
 {
-    let mut p = from;
-    while p < end {
+    for p in from..end {
         if file[p] == 0 {
             return p;
         }
-        p += 1;
     }
-    p
+    from.max(end)
 }

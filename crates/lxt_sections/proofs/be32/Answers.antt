@@ -1,6 +1,6 @@
-use mathlib.Core.Path.{◌∙◌, sym}
 use Rattle.lxt_format.specs.BytesLaws.{u32_bytes}
+use native.Mathlib.Omega.{arith}
 use Rattle.lxt_sections.proofs.be32.Goals as goal
 
 pub returns : goal.returns
-returns c = c.join32.ensures ∙ sym (u32_bytes _ _)
+returns c = omega (arith, u32_bytes c.args.file.now c.args.at)

@@ -1,3 +1,4 @@
+use mathlib.Core.Path.{◌∙◌}
 use Rattle.lxt_sections.proofs.LayoutLaws.{inside_wide, time_wide, inside_narrow, time_narrow}
 use Rattle.lxt_sections.proofs.times.time_at.Goals as goal
 
@@ -11,4 +12,4 @@ pub be32-requires : goal.be32-requires
 be32-requires c = search inside_narrow
 
 pub returns : goal.returns
-returns c = search time_narrow
+returns c = time_narrow _ c.if-wide.false _ _ _ _ (c.from.ensures ∙ c.be32.ensures)

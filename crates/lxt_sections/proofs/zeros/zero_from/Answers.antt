@@ -11,4 +11,4 @@ pub loop-p-preserved : goal.loop-p-preserved
 loop-p-preserved c = search one_passed
 
 pub returns : goal.returns
-returns c = none_met _ _ _ _ c.loop-p.invariant c.loop-p-test.false
+returns c = none_met _ _ _ _ c.loop-p.invariant c.loop-p-test.false c.loop-p.auto.p-end _ c.max.ensures
