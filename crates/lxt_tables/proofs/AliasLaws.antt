@@ -68,9 +68,9 @@ store_less n at v roots room a b h =
 module _ (s : List ℕ) (g n : ℕ) (p : Geometry s g n) where
   -- ---- the way to a root: at `at`, with `left` facilities more
 
-  pub way_begun : (f : ℕ) → root_within n s f ≡ root_of s f
+  pub way_begun : (f : ℕ) → root_within (n - 0) s f ≡ root_of s f
   unfolding root_of
-  way_begun f = rw p.count
+  way_begun f = let e : n - 0 ≡ n = omega arith in rw (e, p.count)
 
   module _ (at left r : ℕ) (inv : root_within left s at ≡ r) where
     pub way_over : left ≤ 0 → n ≡ r
@@ -91,8 +91,8 @@ module _ (s : List ℕ) (g n : ℕ) (p : Geometry s g n) where
         pub way_root : a ≡ false → at ≡ r
         way_root e = sym (root_here s (left - 1) at below (sym ea ∙ e)) ∙ rw (← one_less) inv
 
-        pub way_next : a ≡ true → (t : ℕ) → t ≡ rows_of s at → root_within (left - 1) s t ≡ r
-        way_next e t et = rw et (sym (root_next s (left - 1) at below (sym ea ∙ e)) ∙ rw (← one_less) inv)
+        pub way_next : a ≡ true → (t : ℕ) → t ≡ rows_of s at → (k : ℕ) → left ≡ suc k → root_within k s t ≡ r
+        way_next e t et k ek = rw et (sym (root_next s k at below (sym ea ∙ e)) ∙ (rw ek at inv))
 
   -- ---- by a table of roots
 

@@ -1,7 +1,7 @@
 -- A law for each way out of the functions on the geometry.
 use Prim.Native.Nat.{ℕ, zero, suc, ◌+◌, ◌*◌, ◌-◌, ◌/◌, ◌%◌, ◌≤◌, ◌<◌}
 use mathlib.Core.Path.{◌≡◌, refl, sym, ◌∙◌}
-use mathlib.Core.Bool.{Bool, true, false, not, ◌&&◌, ◌||◌, false≢true}
+use mathlib.Core.Bool.{Bool, true, false, not, ◌&&◌, ◌||◌, and_assoc, false≢true}
 use mathlib.Core.List.{List}
 use lib.IntN.{ℤ, pos, negsuc, nat_abs, sub_ℕ, ◌-ℤ◌}
 use lib.Dec.{leb, eqb}
@@ -51,45 +51,34 @@ pub alias_is : (s : List ℕ) (f v : ℕ) → v ≡ flags_of s f → eqb (v / 8 
 unfolding is_alias
 alias_is s f v e = rw e
 
--- ---- the distance of two signed numbers from their bits moved up by 2 ^ 31
+-- ---- signed numbers
 
-abs_sub : (a b : ℕ) → nat_abs (sub_ℕ a b) ≡ (a - b) + (b - a)
-abs_sub a b =
-    elim (dec_le b a) [
-      | yes h ↦ simp (le-ltb a b h) (omega arith)
-      | no h ↦ (let g = lt_of_not-le h in simp (lt-ltb a b g) (omega arith))
-    ]
+-- 32 bits read as a signed number
+pub signed_is : (x : ℕ) → to_z w32 x ≡ signed 32 x
+unfolding signed
+signed_is x = let top : 4294967296 - suc x ≡ 4294967295 - x = omega arith in simp top
 
-abs_pos : (a b : ℕ) → nat_abs (pos a -ℤ pos b) ≡ (a - b) + (b - a)
-abs_pos a zero = omega arith
-abs_pos a (suc b) = abs_sub a (suc b)
-
-abs_neg : (k b : ℕ) → nat_abs (negsuc k -ℤ pos b) ≡ suc k + b
-abs_neg k zero = omega (arith, abs_sub 0 (suc k))
-abs_neg k (suc b) = omega arith
-
-abbrev up : ℕ → ℕ
-up x = (x + 2147483648) % 4294967296
-
-pub gap : (x y : ℕ) → x < 4294967296 → y < 4294967296 → width_between x y ≡ (up x - up y) + (up y - up x) + 1
-unfolding width_between signed
-gap x y hx hy =
-    elim (dec_le 2147483648 x) [
-      | yes a ↦ elim (dec_le 2147483648 y) [
-        | yes b ↦ simp (le-ltb x _ a, le-ltb y _ b) (omega (arith, abs_sub (suc (4294967295 - y)) (suc (4294967295 - x))))
-        | no b ↦ (let g = lt_of_not-le b in simp (le-ltb x _ a, lt-ltb y _ g) (omega (arith, abs_neg (4294967295 - x) y)))
-      ]
-      | no a ↦ (let f = lt_of_not-le a in elim (dec_le 2147483648 y) [
-        | yes b ↦ simp (lt-ltb x _ f, le-ltb y _ b) (omega arith)
-        | no b ↦ (let g = lt_of_not-le b in simp (lt-ltb x _ f, lt-ltb y _ g) (omega (arith, abs_pos x y)))
-      ])
-    ]
+pub width_is : (x y : ℕ) (a : ℤ) → SFits w32 a → a ≡ signed 32 x → (b : ℤ) → SFits w32 b → b ≡ signed 32 y
+    → (d : ℕ) → d ≡ nat_abs (to_z w32 (of_z w32 a) -ℤ to_z w32 (of_z w32 b)) → d + 1 ≡ width_between x y
+unfolding width_between
+width_is x y a fa ea b fb eb d e = rw (e, to_z-of_z w32 a fa, to_z-of_z w32 b fb, ea, eb)
 
 -- ---- kinds and facts
 
-pub flags_allowed_is : (v : ℕ) → (eqb v 0 || (eqb v 1 || (eqb v 2 || eqb v 4))) ≡ flags_allowed v
+pub flags_low : (v : ℕ) → v ≤ 2 → true ≡ flags_allowed v
 unfolding flags_allowed
-flags_allowed_is v = refl
+flags_low zero h = refl
+flags_low (suc zero) h = refl
+flags_low (suc (suc zero)) h = refl
+flags_low (suc (suc (suc v))) h = absurd (omega arith)
+
+pub flags_4 : (v : ℕ) → v ≡ 4 → true ≡ flags_allowed v
+unfolding flags_allowed
+flags_4 v e = rw e
+
+pub flags_other : (v : ℕ) → (v ≡ 0 → ⊥) → (v ≡ 1 → ⊥) → (v ≡ 2 → ⊥) → (v ≡ 4 → ⊥) → false ≡ flags_allowed v
+unfolding flags_allowed
+flags_other v z a b c = simp (ne_eqb v 0 z, ne_eqb v 1 a, ne_eqb v 2 b, ne_eqb v 4 c)
 
 module _ (v : ℕ) where
   pub integer_is : v ≡ 1 → Integer ≡ kind_of_flags v
@@ -156,9 +145,9 @@ module _ (s : List ℕ) (f v : ℕ) (ev : v ≡ flags_of s f) (k : Kind) (ek : k
 
 pub entry_is : (s : List ℕ) (f : ℕ) (a : Bool) → a ≡ is_alias s f → (r : ℕ) → r ≡ rows_of s f → (v : ℕ) → v ≡ flags_of s f
     → (x : ℕ) → x ≡ msb_of s f → (y : ℕ) → y ≡ lsb_of s f → (w : ℕ) → w ≡ width_between x y → (b : Bool) → b ≡ flags_allowed v
-    → (d : Bool) → d ≡ leb w widest_facility → (a || (eqb r 0 && (b && (not (eqb v 0) || d)))) ≡ geometry_allowed s f
+    → (d : Bool) → d ≡ leb w widest_facility → (a || (eqb r 0 && b && (not (eqb v 0) || d))) ≡ geometry_allowed s f
 unfolding geometry_allowed
-entry_is s f a ea r er v ev x ex y ey w ew b eb d ed = rw (ea, er, eb, ed, ew, ev, ex, ey)
+entry_is s f a ea r er v ev x ex y ey w ew b eb d ed = rw (and_assoc, ea, er, eb, ed, ew, ev, ex, ey)
 
 module _ (s : List ℕ) (g n : ℕ) (p : Geometry s g n) where
   pub entries_begun : all (geometry_allowed s) (range 0 (n - 0)) ≡ geometries_allowed s

@@ -1,10 +1,12 @@
 -- A law for each way out of the functions on the real test.
 use Rattle.std.specs.Prelude.{if◌then◌else◌}
-use Prim.Native.Nat.{ℕ, suc, ◌+◌, ◌-◌, ◌≤◌, ◌<◌}
-use mathlib.Core.Path.{◌≡◌}
-use mathlib.Core.Bool.{Bool, true, false, and-false}
+use Prim.Native.Nat.{ℕ, zero, suc, ◌+◌, ◌-◌, ◌≤◌, ◌<◌}
+use mathlib.Core.Path.{◌≡◌, ap}
+use mathlib.Core.Bool.{Bool, true, false, ◌&&◌, and-false}
 use mathlib.Core.List.{List, [], ◌∷◌, map}
-use lib.ListN.{length, get_or, take, drop}
+use lib.ListN.{length, get_or, take, drop, drop_of_length-le}
+use Rattle.std.specs.List.{list_all}
+use Rattle.lxt_format.specs.Basics.{range, all}
 use lib.Seq.{drop-cons}
 use lib.Dec.{eqb}
 use native.Mathlib.Omega.{arith}
@@ -80,3 +82,9 @@ module _ (s : List ℕ) (at : ℕ) where
       → g ≡ place_of 0x09 (take 8 (drop at s)) → h ≡ place_of 0x40 (take 8 (drop at s))
       → a ∷ b ∷ c ∷ d ∷ e ∷ f ∷ g ∷ h ∷ [] ≡ map (λ x. place_of x (take 8 (drop at s))) test_pattern
   order_is a b c d e f g h ea eb ec ed ee ef eg eh = rw (ea, eb, ec, ed, ee, ef, eg, eh)
+
+-- a test holds of each of the last n elements, those from `a` on
+pub all_from : (p : ℕ → Bool) (t : List ℕ) (n a : ℕ) → a + n ≡ length t → list_all p (drop a t) ≡ all (λ i. p (get_or t i 0)) (range a n)
+unfolding all range
+all_from p t zero a h = let l : length t ≤ a = omega arith in rw (drop_of_length-le t l)
+all_from p t (suc n) a h = let l : a < length t = omega arith in rw (drop-cons t a 0) (ap (λ b. p (get_or t a 0) && b) (all_from p t n (suc a) (omega arith)))

@@ -1,15 +1,18 @@
 -- A law for each way out of the functions on the sections of one byte.
 use Rattle.std.specs.Prelude.{if◌then◌else◌}
 use Prim.Native.Nat.{ℕ, suc, ◌+◌, ◌-◌, ◌≤◌, ◌<◌}
-use mathlib.Core.Path.{◌≡◌, sym, ◌∙◌}
+use mathlib.Core.Path.{◌≡◌, refl, sym, ◌∙◌}
+use mathlib.Core.Bool.{Bool, true, false, ◌&&◌}
 use mathlib.Core.List.{List}
 use lib.ListN.{length}
-use lib.IntN.{ℤ, negsuc}
+use lib.IntN.{ℤ, pos, negsuc}
+use lib.Signed.{le_z}
 use native.Mathlib.Omega.{arith}
 use native.Mathlib.Decide.{dec_le}
 use mir.Syntax.{w8}
-use mir.Val.{to_z}
-use borrow.Author.Tests.{lt-ltb, le-ltb, le-leb, lt-leb, ne_eqb}
+use mir.Val.{SFits, to_z, of_z}
+use mir.ValLaws.{to_z-of_z}
+use borrow.Author.Tests.{le-leb, lt-leb, ne_eqb}
 use Rattle.lxt_format.specs.Bytes.{byte_at, signed}
 use Rattle.lxt_format.specs.Sections.{section_of, present, timescale_allowed, timescale_of, initial_of}
 use Rattle.lxt_tables.specs.Asked.{OneByte}
@@ -23,25 +26,19 @@ readable s tag at p n = p.inside n
 abbrev scaled : ℕ → ℤ
 scaled b = if timescale_allowed (signed 8 b) then signed 8 b else negsuc 8
 
-scaled_low : (b : ℕ) → b ≤ 2 → to_z w8 b ≡ scaled b
-unfolding signed timescale_allowed
-scaled_low b h = let l : b < 128 = omega arith in simp (lt-ltb b 128 l, le-leb b 2 h)
+-- 8 bits read as a signed number
+signed_8 : (b : ℕ) → to_z w8 b ≡ signed 8 b
+unfolding signed
+signed_8 b = let top : 256 - suc b ≡ 255 - b = omega arith in simp top
 
-scaled_high : (b : ℕ) → 235 ≤ b → b ≤ 255 → to_z w8 (255 - (255 - b)) ≡ scaled b
-unfolding signed timescale_allowed
-scaled_high b h top =
-    let back : 255 - (255 - b) ≡ b = omega arith in
-    let l : 128 ≤ b = omega arith in
-    let k : 255 - b + 1 ≤ 21 = omega arith in
-    let e : 256 - suc b ≡ 255 - b = omega arith in
-    rw back (simp (le-ltb b 128 l, le-leb (255 - b + 1) 21 k, e))
-
-scaled_other : (b : ℕ) → 2 < b → b < 235 → negsuc 8 ≡ scaled b
-unfolding signed timescale_allowed
-scaled_other b h l =
-    elim (dec_le 128 b) [
-      | yes a ↦ (let k : 21 < 255 - b + 1 = omega arith in simp (le-ltb b 128 a, lt-leb (255 - b + 1) 21 k))
-      | no n ↦ (let a : b < 128 = omega arith in simp (lt-ltb b 128 a, lt-leb b 2 h))
+-- from -21 to 2
+between : (z : ℤ) → (le_z (negsuc 20) z && le_z z (pos 2)) ≡ timescale_allowed z
+unfolding timescale_allowed
+between (pos k) = refl
+between (negsuc k) =
+    elim (dec_le k 20) [
+      | yes h ↦ (let l : k + 1 ≤ 21 = omega arith in simp (le-leb k 20 h, le-leb (k + 1) 21 l))
+      | no h ↦ (let g : 20 < k = omega arith in let l : 21 < k + 1 = omega arith in simp (lt-leb k 20 g, lt-leb (k + 1) 21 l))
     ]
 
 module _ (s : List ℕ) (at : ℕ) (p : OneByte s 0x05 at) where
@@ -54,14 +51,18 @@ module _ (s : List ℕ) (at : ℕ) (p : OneByte s 0x05 at) where
     unfolding timescale_of present
     scale_is = rw (← p.start) (simp (ne_eqb at 0 n))
 
-    pub scale_low : byte_at s at ≤ 2 → to_z w8 (byte_at s at) ≡ timescale_of s
-    scale_low h = scaled_low (byte_at s at) h ∙ scale_is
+    module _ (a : ℤ) (fits : SFits w8 a) (ea : a ≡ to_z w8 (byte_at s at)) where
+      read : to_z w8 (of_z w8 a) ≡ signed 8 (byte_at s at)
+      read = to_z-of_z w8 a fits ∙ (ea ∙ signed_8 (byte_at s at))
 
-    pub scale_high : byte_at s at ≤ 255 → 235 ≤ byte_at s at → to_z w8 (255 - (255 - byte_at s at)) ≡ timescale_of s
-    scale_high top h = scaled_high (byte_at s at) h top ∙ scale_is
+      tested : (b : Bool) → (le_z (negsuc 20) (to_z w8 (of_z w8 a)) && le_z (to_z w8 (of_z w8 a)) (pos 2)) ≡ b → timescale_allowed (signed 8 (byte_at s at)) ≡ b
+      tested b h = sym (between (signed 8 (byte_at s at))) ∙ (rw read at h)
 
-    pub scale_other : 2 < byte_at s at → byte_at s at < 235 → negsuc 8 ≡ timescale_of s
-    scale_other h l = scaled_other (byte_at s at) h l ∙ scale_is
+      pub scale_kept : (le_z (negsuc 20) (to_z w8 (of_z w8 a)) && le_z (to_z w8 (of_z w8 a)) (pos 2)) ≡ true → to_z w8 (of_z w8 a) ≡ timescale_of s
+      scale_kept h = let k : signed 8 (byte_at s at) ≡ scaled (byte_at s at) = rw (tested true h) in read ∙ (k ∙ scale_is)
+
+      pub scale_other : (le_z (negsuc 20) (to_z w8 (of_z w8 a)) && le_z (to_z w8 (of_z w8 a)) (pos 2)) ≡ false → negsuc 8 ≡ timescale_of s
+      scale_other h = let k : negsuc 8 ≡ scaled (byte_at s at) = rw (tested false h) in k ∙ scale_is
 
 -- ---- the initial symbol
 

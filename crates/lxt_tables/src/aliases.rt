@@ -22,8 +22,7 @@ pub fn root(file: &[u8], geometry: usize, n: u32, f: u32) -> u32
     ensures { result ≡ root_of file.now f }
 {
     let mut at = f;
-    let mut left = n;
-    while 0 < left {
+    for _i in 0..n {
         if n <= at {
             return n;
         }
@@ -31,7 +30,6 @@ pub fn root(file: &[u8], geometry: usize, n: u32, f: u32) -> u32
             return at;
         }
         at = rows(file, geometry, n, at);
-        left -= 1;
     }
     n // a cycle
 }
@@ -42,8 +40,7 @@ fn root_by(file: &[u8], geometry: usize, n: u32, roots: &[u32], f: u32) -> u32
     ensures { result ≡ root_of file.now f }
 {
     let mut at = f;
-    let mut left = n;
-    while 0 < left {
+    for _i in 0..n {
         if n <= at {
             return n;
         }
@@ -55,7 +52,6 @@ fn root_by(file: &[u8], geometry: usize, n: u32, roots: &[u32], f: u32) -> u32
             return at;
         }
         at = rows(file, geometry, n, at);
-        left -= 1;
     }
     n // the way goes round
 }
@@ -77,6 +73,7 @@ fn put_root(file: &[u8], geometry: usize, n: u32, roots: &mut [u32], f: u32, roo
     ensures { Roots file.now n (f + 1) roots.new }
 {
     let mut at = f;
+    // a way along aliases, not a count
     while n <= roots[at as usize] {
         roots[at as usize] = root;
         at = stands_for(file, geometry, n, at);
@@ -89,14 +86,12 @@ pub fn put_roots(file: &[u8], geometry: usize, n: u32, roots: &mut [u32]) -> boo
     requires { Geometry file.now geometry n × Roots file.now n 0 roots.old }
     ensures { Resolved file.now n result roots.new }
 {
-    let mut f = 0;
-    while f < n {
+    for f in 0..n {
         let root = root_by(file, geometry, n, roots, f);
         if n <= root {
             return false;
         }
         put_root(file, geometry, n, roots, f, root);
-        f += 1;
     }
     true
 }
@@ -106,12 +101,10 @@ fn none_is_alias(file: &[u8], geometry: usize, n: u32) -> bool
     requires { Geometry file.now geometry n }
     ensures { result ≡ all (λ f. not (is_alias file.now f)) (range 0 n) }
 {
-    let mut f = 0;
-    while f < n {
+    for f in 0..n {
         if is_alias(file, geometry, n, f) {
             return false;
         }
-        f += 1;
     }
     true
 }

@@ -18,7 +18,7 @@ pub fn part_of(end: usize, start: u32, size: usize) -> u64
     if !lies(end, start, size) {
         return 0;
     }
-    start as u64 * START + (start as u64 + size as u64)
+    u64::from(start) * START + (u64::from(start) + size as u64)
 }
 
 // The part of the excluded times: their count, then 16 bytes for each. The count is read once it was found to lie

@@ -1,6 +1,5 @@
 // The geometry of a trace, entry by entry: refusal 11, and the facts of a facility.
 ghost use Rattle.std.specs.Prelude.{◌≡◌, true, false, ◌≤◌, ◌<◌};
-ghost use Rattle.lxt_format.specs.Bytes.{signed};
 ghost use Rattle.lxt_format.specs.Limits.{widest_facility};
 ghost use Rattle.lxt_format.specs.Geometry.{rows_of, msb_of, lsb_of, flags_of, is_alias, flags_allowed, kind_of_flags, width_between, geometry_allowed, geometries_allowed, facts_by, own_facts, sync_of};
 ghost use Rattle.lxt_tables.specs.Stage.{Geometry};
@@ -56,45 +55,29 @@ pub fn sync_of(file: &[u8], sync: usize, n: u32, f: u32) -> u32
     be32(file, sync + 4 * (f as usize))
 }
 
-// |msb - lsb| + 1. Both are moved up by 2 ^ 31 first, so that no signed number is needed.
+// |msb - lsb| + 1 of the signed numbers.
 pub fn width_between(msb: u32, lsb: u32) -> u64
     ensures { result ≡ width_between msb lsb }
 {
-    let a = (msb as u64 + 2147483648) % 4294967296;
-    let b = (lsb as u64 + 2147483648) % 4294967296;
-    if a < b { b - a + 1 } else { a - b + 1 }
-}
-
-// 32 bits read as a signed number.
-fn signed_of(x: u32) -> i32
-    ensures { result ≡ signed 32 x }
-{
-    if x < 0x8000_0000 {
-        x as i32
-    } else {
-        !((0xffff_ffff - x) as i32)
-    }
+    let distance = msb.cast_signed().abs_diff(lsb.cast_signed());
+    u64::from(distance) + 1
 }
 
 fn flags_allowed(flags: u32) -> bool
     ensures { result ≡ flags_allowed flags }
 {
-    (flags == 0) | ((flags == 1) | ((flags == 2) | (flags == 4)))
+    matches!(flags, 0 | 1 | 2 | 4)
 }
 
 fn kind_of(flags: u32) -> Kind
     ensures { result ≡ kind_of_flags flags }
 {
-    if flags == 1 {
-        return Kind::Integer;
+    match flags {
+        1 => Kind::Integer,
+        2 => Kind::Real,
+        4 => Kind::Text,
+        _ => Kind::Bits,
     }
-    if flags == 2 {
-        return Kind::Real;
-    }
-    if flags == 4 {
-        return Kind::Text;
-    }
-    Kind::Bits
 }
 
 // The entry of a facility keeps the rules of refusal 11.
@@ -106,7 +89,8 @@ pub fn geometry_allowed(file: &[u8], geometry: usize, n: u32, f: u32) -> bool
     let width = width_between(msb(file, geometry, n, f), lsb(file, geometry, n, f));
     is_alias(file, geometry, n, f)
         | ((rows(file, geometry, n, f) == 0)
-            & (flags_allowed(word) & ((word != 0) | Facts::width_is_allowed(width))))
+            & flags_allowed(word)
+            & ((word != 0) | Facts::width_is_allowed(width)))
 }
 
 // Refusal 11.
@@ -114,12 +98,10 @@ pub fn geometries_allowed(file: &[u8], geometry: usize, n: u32) -> bool
     requires { Geometry file.now geometry n }
     ensures { result ≡ geometries_allowed file.now }
 {
-    let mut f = 0;
-    while f < n {
+    for f in 0..n {
         if !geometry_allowed(file, geometry, n, f) {
             return false;
         }
-        f += 1;
     }
     true
 }
@@ -131,8 +113,8 @@ fn bits_facts(msb: u32, lsb: u32) -> Facts
 {
     Facts {
         width: width_between(msb, lsb) as u32,
-        msb: signed_of(msb),
-        lsb: signed_of(lsb),
+        msb: msb.cast_signed(),
+        lsb: lsb.cast_signed(),
         kind: Kind::Bits,
     }
 }
@@ -144,8 +126,7 @@ pub fn own_facts(file: &[u8], geometry: usize, n: u32, f: u32) -> Facts
     requires f_value_2 { is_alias file.now f ≡ false }
     ensures { result ≡ own_facts file.now f }
 {
-    let kind = kind_of(flags(file, geometry, n, f));
-    match kind {
+    match kind_of(flags(file, geometry, n, f)) {
         Kind::Bits => bits_facts(msb(file, geometry, n, f), lsb(file, geometry, n, f)),
         Kind::Integer => Facts {
             width: 32,

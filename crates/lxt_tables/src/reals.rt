@@ -1,5 +1,6 @@
 // The real facilities of a trace and the byte order that the real test fixes: refusal 14.
 ghost use Rattle.std.specs.Prelude.{◌≡◌, map, ◌+◌, ◌≤◌, ltb, length, get_or, take, drop};
+ghost use Rattle.std.specs.List.{list_all};
 ghost use Rattle.lxt_format.specs.Basics.{range, all};
 ghost use Rattle.lxt_format.specs.Reals.{place_of, test_pattern, has_real};
 ghost use Rattle.lxt_tables.specs.Stage.{Geometry};
@@ -11,12 +12,10 @@ pub fn has_real(file: &[u8], geometry: usize, n: u32) -> bool
     requires { Geometry file.now geometry n }
     ensures { result ≡ has_real file.now }
 {
-    let mut f = 0;
-    while f < n {
+    for f in 0..n {
         if flags(file, geometry, n, f) == 2 {
             return true;
         }
-        f += 1;
     }
     false
 }
@@ -26,12 +25,10 @@ fn place_of(file: &[u8], at: usize, b: u8) -> u8
     requires { at + 8 ≤ length file.now }
     ensures { result ≡ place_of b (take 8 (drop at file.now)) }
 {
-    let mut j: u8 = 0;
-    while j < 8 {
-        if file[at + j as usize] == b {
+    for j in 0..8u8 {
+        if file[at + usize::from(j)] == b {
             return j;
         }
-        j += 1;
     }
     8
 }
@@ -53,14 +50,15 @@ pub fn byte_order(file: &[u8], at: usize) -> [u8; 8]
     ]
 }
 
+fn all_below_8(places: &[u8]) -> bool
+    ensures { result ≡ list_all (λ p. ltb p 8) places.now }
+{
+    places.iter().all(|p| *p < 8)
+}
+
 // Every byte of the pattern has a place.
 pub fn is_reordering(order: [u8; 8]) -> bool
     ensures { result ≡ all (λ i. ltb (get_or order i 0) 8) (range 0 8) }
 {
-    (order[0] < 8)
-        & ((order[1] < 8)
-            & ((order[2] < 8)
-                & ((order[3] < 8)
-                    & ((order[4] < 8)
-                        & ((order[5] < 8) & ((order[6] < 8) & ((order[7] < 8) & true)))))))
+    all_below_8(&order)
 }

@@ -3,7 +3,7 @@ ghost use Rattle.std.specs.Prelude.{◌≡◌};
 ghost use Rattle.lxt_format.specs.Sections.{timescale_of, initial_of};
 ghost use Rattle.lxt_tables.specs.Asked.{OneByte};
 
-// The timescale, from -21 (235 as a byte) to 2; -9 where it is absent or another.
+// The timescale, from -21 to 2; -9 where it is absent or another.
 pub fn timescale(file: &[u8], at: u32) -> i8
     requires { OneByte file.now 0x05 at }
     ensures { result ≡ timescale_of file.now }
@@ -11,14 +11,12 @@ pub fn timescale(file: &[u8], at: u32) -> i8
     if at == 0 {
         return -9;
     }
-    let b = file[at as usize];
-    if b <= 2 {
-        return b as i8;
+    let scale = file[at as usize].cast_signed();
+    if (-21 <= scale) & (scale <= 2) {
+        scale
+    } else {
+        -9
     }
-    if 235 <= b {
-        return !((255 - b) as i8);
-    }
-    -9
 }
 
 // The code of the initial symbol; 3 (X) where it is absent or above 8.

@@ -20,15 +20,13 @@ fn sums_allowed(file: &[u8], at: usize, wide: bool, m: u32, first: u64, high: u6
 {
     let count = m as usize;
     let mut sum = first;
-    let mut i: usize = 1;
-    while i < count {
+    for i in 1..count {
         let delta = time_at(file, at, wide, i);
         let allowed = (delta < BIAS) & (delta <= high - sum);
         if !allowed {
             return false;
         }
         sum += delta;
-        i += 1;
     }
     true
 }
@@ -49,7 +47,7 @@ fn head_of(file: &[u8], times: usize, m: u32, wide: bool, end: usize) -> Head
 {
     let low = time_at(file, times + 4, wide, 0);
     let high = time_at(file, last_at(times, wide), wide, 0);
-    let position = be32(file, positions_at(times, wide)) as u64;
+    let position = u64::from(be32(file, positions_at(times, wide)));
     let time = time_at(file, steps_at(times, m, wide), wide, 0);
     Head {
         position,
@@ -81,12 +79,10 @@ fn any_sync(file: &[u8], geometry: usize, sync: usize, n: u32) -> bool
     requires { Geometry file.now geometry n × Sync file.now sync n }
     ensures { result ≡ any (λ f. not (eqb (sync_of file.now f) 0)) (roots_of file.now) }
 {
-    let mut f = 0;
-    while f < n {
+    for f in 0..n {
         if !is_alias(file, geometry, n, f) & (sync_of(file, sync, n, f) != 0) {
             return true;
         }
-        f += 1;
     }
     false
 }

@@ -6,6 +6,3 @@ use Rattle.lxt_tables.proofs.aliases.none_is_alias.Given as goal
 
 abbrev pub invariant-loop-f : goal.invariant-loop-f
 invariant-loop-f l = (l.f ≤ l.n) × (all (own l.file) (range l.f (l.n - l.f)) ≡ all (own l.file) (range 0 l.n))
-
-abbrev pub decreases-loop-f : goal.decreases-loop-f
-decreases-loop-f l = l.n - l.f

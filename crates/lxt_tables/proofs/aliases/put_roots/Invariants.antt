@@ -4,6 +4,3 @@ use Rattle.lxt_tables.proofs.aliases.put_roots.Given as goal
 
 abbrev pub invariant-loop-f : goal.invariant-loop-f
 invariant-loop-f l = Putting l.file l.n l.initial.roots l.f l.roots
-
-abbrev pub decreases-loop-f : goal.decreases-loop-f
-decreases-loop-f l = l.n - l.f

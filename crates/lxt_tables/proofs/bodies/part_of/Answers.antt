@@ -10,4 +10,4 @@ pub overflow_add-result-2 : goal.overflow_add-result-2
 overflow_add-result-2 c = omega (arith, part_end_lem c.args.end c.args.start c.args.size _ c.lies.ensures c.if-not-lies.false)
 
 pub returns : goal.returns
-returns c = search (part_inside_lem, not-false)
+returns c = rw (c.from.ensures, c.from-2.ensures) (search (part_inside_lem, not-false))

@@ -6,6 +6,3 @@ use Rattle.lxt_tables.proofs.geometry.geometries_allowed.Given as goal
 
 abbrev pub invariant-loop-f : goal.invariant-loop-f
 invariant-loop-f l = (l.f ≤ l.n) × (all (geometry_allowed l.file) (range l.f (l.n - l.f)) ≡ geometries_allowed l.file)
-
-abbrev pub decreases-loop-f : goal.decreases-loop-f
-decreases-loop-f l = l.n - l.f

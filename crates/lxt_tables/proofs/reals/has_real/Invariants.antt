@@ -7,6 +7,3 @@ use Rattle.lxt_tables.proofs.reals.has_real.Given as goal
 
 abbrev pub invariant-loop-f : goal.invariant-loop-f
 invariant-loop-f l = (l.f ≤ l.n) × (any_root l.file (real_root l.file) l.f l.n ≡ has_real l.file)
-
-abbrev pub decreases-loop-f : goal.decreases-loop-f
-decreases-loop-f l = l.n - l.f

@@ -6,6 +6,3 @@ use Rattle.lxt_tables.proofs.reals.place_of.Given as goal
 
 abbrev pub invariant-loop-j : goal.invariant-loop-j
 invariant-loop-j l = (l.j ≤ 8) × (l.j + place_of l.b (take (8 - l.j) (drop (l.at + l.j) l.file)) ≡ place_of l.b (take 8 (drop l.at l.file)))
-
-abbrev pub decreases-loop-j : goal.decreases-loop-j
-decreases-loop-j l = 8 - l.j

@@ -1,5 +1,5 @@
-use native.Mathlib.Omega.{arith}
-use Rattle.lxt_tables.proofs.SingleLaws.{readable, scale_absent, scale_low, scale_high, scale_other}
+use borrow.Author.Rules.{rules}
+use Rattle.lxt_tables.proofs.SingleLaws.{readable, scale_absent, scale_kept, scale_other}
 use Rattle.lxt_tables.proofs.single.timescale.Goals as goal
 
 pub returns-then-at-eq0 : goal.returns-then-at-eq0
@@ -8,16 +8,8 @@ returns-then-at-eq0 c = search scale_absent
 pub bounds-file-at : goal.bounds-file-at
 bounds-file-at c = search readable
 
-pub returns-then-b-le2 : goal.returns-then-b-le2
-returns-then-b-le2 c = search scale_low
+pub returns-then-scale : goal.returns-then-scale
+returns-then-scale c = scale_kept _ _ c.requires c.if-at-eq0.false _ (search rules) c.cast_signed-scale.ensures c.if-scale.true
 
-pub overflow_sub-result : goal.overflow_sub-result
-overflow_sub-result c = omega (arith, c.shared_slice_known-1.given c.args.at)
-
-pub returns-then-b-ge235 : goal.returns-then-b-ge235
-returns-then-b-ge235 c =
-    scale_high _ _ c.requires c.if-at-eq0.false
-    (omega (arith, c.shared_slice_known-1.given c.args.at)) c.if-b-ge235.true
-
-pub returns : goal.returns
-returns c = search scale_other
+pub returns-else-scale : goal.returns-else-scale
+returns-else-scale c = scale_other _ _ c.requires c.if-at-eq0.false _ (search rules) c.cast_signed-scale.ensures c.if-scale.false

@@ -7,6 +7,3 @@ use Rattle.lxt_tables.proofs.times.any_sync.Given as goal
 
 abbrev pub invariant-loop-f : goal.invariant-loop-f
 invariant-loop-f l = (l.f ≤ l.n) × (any_root l.file (synced l.file) l.f l.n ≡ any (synced l.file) (roots_of l.file))
-
-abbrev pub decreases-loop-f : goal.decreases-loop-f
-decreases-loop-f l = l.n - l.f

@@ -8,6 +8,3 @@ use Rattle.lxt_tables.proofs.times.sums_allowed.Given as goal
 
 abbrev pub invariant-loop-i : goal.invariant-loop-i
 invariant-loop-i l = Summing l.file (time_bytes l.wide) l.m l.at l.high (rises_to l.high l.first (drop 1 (numbers_at (time_bytes l.wide) l.m l.file l.at))) l.i l.sum
-
-abbrev pub decreases-loop-i : goal.decreases-loop-i
-decreases-loop-i l = l.m - l.i
