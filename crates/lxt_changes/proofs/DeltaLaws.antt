@@ -26,9 +26,9 @@ module _ (s : List ℕ) where
     pub three : size ≡ 3 → (a b : ℕ) → a ≡ u16_at s at → b ≡ byte_at s (at + 2) → a * 256 + b ≡ number_at size s at
     three h a b ea eb = rw (h, number_3 s at, ea, eb, u16_bytes s at) (omega arith)
 
-    pub four : 1 ≤ size → size ≤ 4 → (size ≡ 1 → ⊥) → (size ≡ 2 → ⊥) → (size ≡ 3 → ⊥) → (r : ℕ) → r ≡ u32_at s at → r ≡ number_at size s at
+    pub four : size ≡ 4 → (r : ℕ) → r ≡ u32_at s at → r ≡ number_at size s at
     unfolding u32_at
-    four l h a b c r e = let k : size ≡ 4 = omega arith in rw k e
+    four k r e = rw k e
 
   pub number_fits : (o size : ℕ) → size ≡ delta_size s o → data_at s o ≤ length s → (o + 1) + size ≤ length s
   unfolding data_at
@@ -39,13 +39,9 @@ module _ (s : List ℕ) where
     unfolding delta_of
     delta_is = ed ∙ rw es
 
-    pub below : o < d + 2 → 0 ≡ previous_of s o
+    pub before : o - (d + 2) ≡ previous_of s o
     unfolding previous_of
-    below h = let e = delta_is in omega arith
-
-    pub before : d + 2 ≤ o → o - (d + 2) ≡ previous_of s o
-    unfolding previous_of
-    before h = rw delta_is
+    before = rw delta_is
 
     pub refused : o < d + 2 → (C : ℕ) → false ≡ previous_allowed s C o
     unfolding previous_allowed
@@ -53,4 +49,4 @@ module _ (s : List ℕ) where
 
     pub allowed : d + 2 ≤ o → (C : ℕ) → (eqb (o - (d + 2)) 0 || leb C (o - (d + 2))) ≡ previous_allowed s C o
     unfolding previous_allowed
-    allowed h C = let g : delta_of s o + 2 ≤ o = (let e = delta_is in omega arith) in simp (le-leb _ _ g) (rw (before h))
+    allowed h C = let g : delta_of s o + 2 ≤ o = (let e = delta_is in omega arith) in simp (le-leb _ _ g) (rw before)

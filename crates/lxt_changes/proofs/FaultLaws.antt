@@ -42,11 +42,13 @@ pub from_end : (s : List ℕ) (end : ℕ) → Above s end end
 from_end s end = record { within = omega arith; none_after = λ i a b. absurd (omega arith) }
 
 module _ (s : List ℕ) (end p : ℕ) (w : Above s end p) where
-  pub zero_found : 0 < p → byte_at s (p - 1) ≡ 0 → LastZero s end p
-  zero_found h e = record { within = w.within; zero_there = λ k. e; none_after = w.none_after }
+  pub zero_found : 0 < p → byte_at s (p - 1) ≡ 0 → LastZero s end (p - 1 + 1)
+  zero_found h e =
+      let q : p - 1 + 1 ≡ p = omega arith in
+      rw q (record { within = w.within; zero_there = λ k. e; none_after = w.none_after })
 
-  pub no_zero : p ≤ 0 → LastZero s end p
-  no_zero h = record { within = w.within; zero_there = λ k. absurd (omega arith); none_after = w.none_after }
+  pub no_zero : p ≤ 0 → LastZero s end 0
+  no_zero h = record { within = omega arith; zero_there = λ k. absurd (omega arith); none_after = λ i a b. w.none_after i (omega arith) b }
 
   pub one_lower : 0 < p → (byte_at s (p - 1) ≡ 0 → ⊥) → Above s end (p - 1)
   one_lower h n =

@@ -41,9 +41,9 @@ module _ (s : List ℕ) (C T : ℕ) (kind : Kind) (o : ℕ) where
     head_long h = rw (lt-ltb o T early, ← ea, lt-leb at T h)
 
     pub head_is : at ≤ T → (y z : Bool) → y ≡ (ltb (byte_at s o) 0x40 && command_allowed kind (byte_at s o % 16)) → z ≡ previous_allowed s C o
-        → (leb C o && (y && z)) ≡ head_kept s C T kind o
+        → (leb C o && y && z) ≡ head_kept s C T kind o
     unfolding head_kept command_of
-    head_is h y z ey ez = rw (lt-ltb o T early, ← ea, le-leb at T h, ey, ez)
+    head_is h y z ey ez = rw (and_assoc, lt-ltb o T early, ← ea, le-leb at T h, ey, ez)
 
   -- what they say
   pub head_start : head_kept s C T kind o ≡ true → o < T

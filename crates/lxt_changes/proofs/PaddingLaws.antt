@@ -56,22 +56,16 @@ module _ (s : List ℕ) (kind : Kind) (width o b at : ℕ) (eb : b ≡ symbol_si
   symbols_inside (inr e) w = rw (ea, eb) (w.symbols (rw e))
 
   module _ (z : Bool) (ez : z ≡ padding_clean s b width at) where
-    pub bits_clean : kind ≡ Bits → z ≡ clean_at s (signal 0 0 kind width) o
+    pub symbols_clean : (kind ≡ Bits) ⊎ (kind ≡ Integer) → z ≡ clean_at s (signal 0 0 kind width) o
     unfolding clean_at command_of
-    bits_clean e = ez ∙ rw (e, ea, eb)
-
-    pub integer_clean : kind ≡ Integer → z ≡ clean_at s (signal 0 0 kind width) o
-    unfolding clean_at command_of
-    integer_clean e = ez ∙ rw (e, ea, eb)
+    symbols_clean (inl e) = ez ∙ rw (e, ea, eb)
+    symbols_clean (inr e) = ez ∙ rw (e, ea, eb)
 
 module _ (s : List ℕ) (kind : Kind) (width o : ℕ) where
-  pub real_clean : kind ≡ Real → true ≡ clean_at s (signal 0 0 kind width) o
+  pub others_clean : (kind ≡ Real) ⊎ (kind ≡ Text) → true ≡ clean_at s (signal 0 0 kind width) o
   unfolding clean_at
-  real_clean e = rw e
-
-  pub text_clean : kind ≡ Text → true ≡ clean_at s (signal 0 0 kind width) o
-  unfolding clean_at
-  text_clean e = rw e
+  others_clean (inl e) = rw e
+  others_clean (inr e) = rw e
 
 -- a sound change lies in the file
 pub sound_inside : (s : List ℕ) (C T : ℕ) (kind : Kind) (width o : ℕ) → T ≤ length s → Sound s (signal C T kind width) o → Inside s kind width o

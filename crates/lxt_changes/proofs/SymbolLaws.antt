@@ -1,13 +1,14 @@
 -- A law for each way out of the functions on symbols.
-use Prim.Native.Nat.{ℕ, ◌+◌, ◌*◌, ◌-◌, ◌≤◌, ◌<◌, ◌/◌, ◌%◌}
+use Prim.Native.Nat.{ℕ, max, min, ◌+◌, ◌*◌, ◌-◌, ◌≤◌, ◌<◌, ◌/◌, ◌%◌}
 use mathlib.Core.Path.{◌≡◌, refl, sym, ◌∙◌}
 use mathlib.Core.Logic.{◌⊎◌, inl, inr, ⊎_elim}
-use mathlib.Core.Bool.{Bool, true, false, ◌&&◌, ◌||◌, false≢true}
+use mathlib.Core.Bool.{Bool, true, false, ◌&&◌, ◌||◌, and-true, or_assoc, false≢true}
 use mathlib.Core.List.{List}
 use lib.ListN.{length}
 use lib.Dec.{ltb, leb, eqb}
 use native.Mathlib.Omega.{arith}
 use native.Mathlib.Nat.{mul-le-mul}
+use Rattle.std.proofs.Math.Nat.{max-eq_left, max-eq_right, min-eq_left, min-eq_right}
 use native.Mathlib.Decide.{ℕ_discrete, dec_le}
 use borrow.Author.Tests.{ne_eqb, le-leb, lt-leb}
 use Rattle.lxt_format.specs.Limits.{widest_facility}
@@ -30,17 +31,14 @@ module _ (kind : Kind) (x : ℕ) where
   unfolding command_allowed
   bits_fit e = rw e
 
-  pub integer_fits : kind ≡ Integer → (ltb x 0x40 && (eqb (x % 16) 0 || (eqb (x % 16) 3 || eqb (x % 16) 4))) ≡ (ltb x 0x40 && command_allowed kind (x % 16))
+  pub integer_fits : kind ≡ Integer → (ltb x 0x40 && (eqb (x % 16) 0 || eqb (x % 16) 3 || eqb (x % 16) 4)) ≡ (ltb x 0x40 && command_allowed kind (x % 16))
   unfolding command_allowed
-  integer_fits e = rw e
+  integer_fits e = rw (e, or_assoc)
 
-  pub real_fits : kind ≡ Real → (ltb x 0x40 && true) ≡ (ltb x 0x40 && command_allowed kind (x % 16))
+  pub others_fit : (kind ≡ Real) ⊎ (kind ≡ Text) → ltb x 0x40 ≡ (ltb x 0x40 && command_allowed kind (x % 16))
   unfolding command_allowed
-  real_fits e = rw e
-
-  pub text_fits : kind ≡ Text → (ltb x 0x40 && true) ≡ (ltb x 0x40 && command_allowed kind (x % 16))
-  unfolding command_allowed
-  text_fits e = rw e
+  others_fit (inl e) = rw (e, and-true)
+  others_fit (inr e) = rw (e, and-true)
 
 module _ (c : ℕ) where
   pub one_bit : c ≡ 0 → (1 ≡ symbol_size c) × (1 ≤ 4)
@@ -80,11 +78,19 @@ pub begun : (s : List ℕ) (from to : ℕ) → Down s from to to
 begun s from to = record { low = λ h. h; high = omega arith; good = λ i a b. absurd (omega arith) }
 
 module _ (s : List ℕ) (from to p : ℕ) (w : Down s from to p) where
-  pub stopped : (z : Bool) → z ≡ good_byte (byte_at s (p - 1)) → z ≡ false → Scanned s from to p
-  stopped z e h = record { low = w.low; high = w.high; good = w.good; stop = λ k. sym e ∙ h }
+  pub stopped : from < p → (z : Bool) → z ≡ good_byte (byte_at s (p - 1)) → z ≡ false → Scanned s from to (p - 1 + 1)
+  stopped l z e h =
+      let q : p - 1 + 1 ≡ p = omega arith in
+      rw q (record { low = w.low; high = w.high; good = w.good; stop = λ k. sym e ∙ h })
 
-  pub ended : p ≤ from → Scanned s from to p
-  ended h = record { low = w.low; high = w.high; good = w.good; stop = λ k. absurd (omega arith) }
+  pub ended : p ≤ from → (m : ℕ) → m ≡ min from to → Scanned s from to m
+  ended h m e =
+      elim (dec_le from to) [
+        | yes l ↦ (let low = w.low l in let q : m ≡ p = (let k : min from to ≡ from = min-eq_left l in omega arith) in
+            rw q (record { low = w.low; high = w.high; good = w.good; stop = λ k. absurd (omega arith) }))
+        | no l ↦ (let r : to ≤ from = omega arith in let q : m ≡ to = (let k : min from to ≡ to = min-eq_right r in omega arith) in
+            rw q (record { low = λ a. a; high = omega arith; good = λ i a b. absurd (omega arith); stop = λ k. absurd (omega arith) }))
+      ]
 
   pub turned : from < p → (z : Bool) → z ≡ good_byte (byte_at s (p - 1)) → z ≡ true → Down s from to (p - 1)
   turned k z e h =
@@ -110,8 +116,11 @@ module _ (s : List ℕ) (from to p : ℕ) (w : Up s from to p) where
   pub stopped_up : (z : Bool) → z ≡ good_byte (byte_at s p) → z ≡ false → ScannedUp s from to p
   stopped_up z e h = record { low = w.low; high = w.high; good = w.good; stop = λ k. sym e ∙ h }
 
-  pub ended_up : to ≤ p → ScannedUp s from to p
-  ended_up h = record { low = w.low; high = w.high; good = w.good; stop = λ k. absurd (omega arith) }
+  pub ended_up : to ≤ p → ScannedUp s from to to
+  ended_up h =
+      let l = w.low in
+      let u = w.high in
+      record { low = omega arith; high = omega arith; good = λ i a b. w.good i a (omega arith); stop = λ k. absurd (omega arith) }
 
   pub turned_up : p < to → (z : Bool) → z ≡ good_byte (byte_at s p) → z ≡ true → Up s from to (p + 1)
   turned_up k z e h =
@@ -172,11 +181,14 @@ module _ (s : List ℕ) (from to : ℕ) where
         all_good_lem : all_good s from to ≡ true
         all_good_lem = good_all (λ i c d. joined_good i (omega arith) (inr d))
 
-        pub grown : to ≤ length s → w.to < to → Answered s (all_good s from to) (record { allowed = true; window = record { from = low; to = to } })
-        grown h l = record { answer = sym all_good_lem; known = record { good = λ i c d. joined_good i c (inr d); within = h } }
-
-        pub within : to ≤ w.to → Answered s (all_good s from to) (record { allowed = true; window = record { from = low; to = w.to } })
-        within l = record { answer = sym all_good_lem; known = record { good = λ i c d. joined_good i c (inl d); within = k.within } }
+        pub grown : to ≤ length s → (m : ℕ) → m ≡ max to w.to → Answered s (all_good s from to) (record { allowed = true; window = record { from = low; to = m } })
+        grown h m e =
+            elim (dec_le to w.to) [
+              | yes l ↦ (let q : m ≡ w.to = (let x : max to w.to ≡ w.to = max-eq_right l in omega arith) in
+                  rw q (record { answer = sym all_good_lem; known = record { good = λ i c d. joined_good i c (inl d); within = k.within } }))
+              | no l ↦ (let r : w.to ≤ to = omega arith in let q : m ≡ to = (let x : max to w.to ≡ to = max-eq_left r in omega arith) in
+                  rw q (record { answer = sym all_good_lem; known = record { good = λ i c d. joined_good i c (inr d); within = h } }))
+            ]
 
   module _ (w : Window) (k : Known s w) (low : ℕ) (a : Scanned s from to low) where
     pub below_bad : from < low → Answered s (all_good s from to) (record { allowed = false; window = w })

@@ -3,14 +3,14 @@ ghost use Rattle.std.specs.Prelude.{◌≡◌, ◌+◌, ◌*◌, ◌≤◌, ◌<
 ghost use Rattle.lxt_format.specs.Bytes.{number_at};
 ghost use Rattle.lxt_format.specs.Changes.{delta_size, data_at, previous_of, previous_allowed};
 
-use lxt_sections::{be16, be32, wide};
+use lxt_sections::{be16, be32};
 
 // The number of delta bytes, 1 to 4.
 pub fn size_of(file: &[u8], o: usize) -> usize
     requires { o < length file.now }
     ensures { (result ≡ delta_size file.now o) × ((1 ≤ result) × (result ≤ 4)) }
 {
-    wide(file[o] / 16 % 4) as usize + 1
+    usize::from(file[o] / 16 % 4) + 1
 }
 
 // Where the data of the change at `o` starts, after its command byte and its delta.
@@ -26,16 +26,12 @@ fn number(file: &[u8], size: usize, at: usize) -> u32
     requires { ((1 ≤ size) × (size ≤ 4)) × (at + size ≤ length file.now) }
     ensures { result ≡ number_at size file.now at }
 {
-    if size == 1 {
-        return wide(file[at]);
+    match size {
+        1 => u32::from(file[at]),
+        2 => be16(file, at),
+        3 => be16(file, at) * 256 + u32::from(file[at + 2]),
+        _ => be32(file, at),
     }
-    if size == 2 {
-        return be16(file, at);
-    }
-    if size == 3 {
-        return be16(file, at) * 256 + wide(file[at + 2]);
-    }
-    be32(file, at)
 }
 
 // The offset of the change before the change at `o`, or 0. Where the offset would lie below 0 it is 0.
@@ -45,10 +41,7 @@ pub fn previous(file: &[u8], o: usize) -> usize
 {
     let size = size_of(file, o);
     let delta = number(file, size, o + 1) as usize;
-    if o < delta + 2 {
-        return 0;
-    }
-    o - (delta + 2)
+    o.saturating_sub(delta + 2)
 }
 
 // The previous offset is 0 or from `from` on, and not below 0.
@@ -58,9 +51,8 @@ pub fn previous_allowed(file: &[u8], from: usize, o: usize) -> bool
 {
     let size = size_of(file, o);
     let delta = number(file, size, o + 1) as usize;
-    if o < delta + 2 {
+    let Some(before) = o.checked_sub(delta + 2) else {
         return false;
-    }
-    let before = o - (delta + 2);
+    };
     (before == 0) | (from <= before)
 }

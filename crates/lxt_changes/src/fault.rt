@@ -16,14 +16,12 @@ pub fn last_zero(file: &[u8], end: usize) -> usize
     requires { end ≤ length file.now }
     ensures { LastZero file.now end result }
 {
-    let mut p = end;
-    while 0 < p {
-        if file[p - 1] == 0 {
-            return p;
+    for p in (0..end).rev() {
+        if file[p] == 0 {
+            return p + 1;
         }
-        p -= 1;
     }
-    p
+    0
 }
 
 // A change without a fault: whether its padding is 0; and what is known of good bytes after that was found.

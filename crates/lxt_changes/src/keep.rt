@@ -30,7 +30,7 @@ pub fn head_keeps(file: &[u8], from: usize, end: usize, kind: Kind, o: usize) ->
     if end < delta::data_at(file, o) {
         return false;
     }
-    (from <= o) & (symbols::command_fits(kind, file[o]) & delta::previous_allowed(file, from, o))
+    (from <= o) & symbols::command_fits(kind, file[o]) & delta::previous_allowed(file, from, o)
 }
 
 // Where the symbols of the change at `o` end.
@@ -56,10 +56,8 @@ fn all_good(file: &[u8], from: usize, to: usize) -> bool
     ensures { result ≡ all_good file.now from to }
 {
     let mut all = true;
-    let mut p = from;
-    while p < to {
+    for p in from..to {
         all = all & symbols::good(file[p]);
-        p += 1;
     }
     all
 }

@@ -44,9 +44,7 @@ pub fn is_clean(file: &[u8], kind: Kind, width: u32, o: usize) -> bool
     let at = delta::data_at(file, o);
     let b = symbols::size_of(file[o]);
     match kind {
-        Kind::Bits => padding_clean(file, b, width, at),
-        Kind::Integer => padding_clean(file, b, width, at),
-        Kind::Real => true,
-        Kind::Text => true,
+        Kind::Bits | Kind::Integer => padding_clean(file, b, width, at),
+        Kind::Real | Kind::Text => true,
     }
 }

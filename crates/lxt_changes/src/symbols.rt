@@ -14,9 +14,8 @@ pub fn command_fits(kind: Kind, byte: u8) -> bool
     let command = byte % 16;
     match kind {
         Kind::Bits => (byte < 0x40) & (command <= 0xb),
-        Kind::Integer => (byte < 0x40) & ((command == 0) | ((command == 3) | (command == 4))),
-        Kind::Real => (byte < 0x40) & true,
-        Kind::Text => (byte < 0x40) & true,
+        Kind::Integer => (byte < 0x40) & ((command == 0) | (command == 3) | (command == 4)),
+        Kind::Real | Kind::Text => byte < 0x40,
     }
 }
 
@@ -24,17 +23,12 @@ pub fn command_fits(kind: Kind, byte: u8) -> bool
 pub fn size_of(byte: u8) -> u32
     ensures { (result ≡ symbol_size (byte % 16)) × (result ≤ 4) }
 {
-    let command = byte % 16;
-    if command == 0 {
-        return 1;
+    match byte % 16 {
+        0 => 1,
+        1 => 2,
+        2 => 4,
+        _ => 0,
     }
-    if command == 1 {
-        return 2;
-    }
-    if command == 2 {
-        return 4;
-    }
-    0
 }
 
 // The bytes that `width` symbols of `b` bits fill.
@@ -57,14 +51,12 @@ fn good_from(file: &[u8], from: usize, to: usize) -> usize
     requires { to ≤ length file.now }
     ensures { Scanned file.now from to result }
 {
-    let mut p = to;
-    while from < p {
-        if !good(file[p - 1]) {
-            return p;
+    for p in (from..to).rev() {
+        if !good(file[p]) {
+            return p + 1;
         }
-        p -= 1;
     }
-    p
+    from.min(to)
 }
 
 // The first offset from `from` on whose byte is not good; `to` where there is none below it.
@@ -72,14 +64,12 @@ fn good_to(file: &[u8], from: usize, to: usize) -> usize
     requires { (from ≤ to) × (to ≤ length file.now) }
     ensures { ScannedUp file.now from to result }
 {
-    let mut p = from;
-    while p < to {
+    for p in from..to {
         if !good(file[p]) {
             return p;
         }
-        p += 1;
     }
-    p
+    to
 }
 
 // The bytes from `from` up to `to` are known to be good.
@@ -124,18 +114,10 @@ fn all_good(file: &[u8], w: Window, from: usize, to: usize) -> Checked
             window: w,
         };
     }
-    if w.to < to {
-        return Checked {
-            allowed: true,
-            window: Window { from: low, to: to },
-        };
-    }
+    let top = to.max(w.to);
     Checked {
         allowed: true,
-        window: Window {
-            from: low,
-            to: w.to,
-        },
+        window: Window { from: low, to: top },
     }
 }
 
@@ -183,7 +165,7 @@ fn all_good_anew(file: &[u8], from: usize, to: usize) -> Checked
     let low = good_from(file, from, to);
     Checked {
         allowed: low <= from,
-        window: Window { from: low, to: to },
+        window: Window { from: low, to },
     }
 }
 
@@ -205,9 +187,8 @@ pub fn codes_allowed(file: &[u8], b: u32, width: u32, at: usize, w: Window) -> C
         return checked;
     }
     let byte = file[last];
-    let seen = checked.window;
     Checked {
         allowed: checked.allowed & (byte / 16 % 16 <= 8),
-        window: seen,
+        window: checked.window,
     }
 }

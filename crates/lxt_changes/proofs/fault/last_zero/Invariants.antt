@@ -3,6 +3,3 @@ use Rattle.lxt_changes.proofs.fault.last_zero.Given as goal
 
 abbrev pub invariant-loop-p : goal.invariant-loop-p
 invariant-loop-p l = Above l.file l.end l.p
-
-abbrev pub decreases-loop-p : goal.decreases-loop-p
-decreases-loop-p l = l.p

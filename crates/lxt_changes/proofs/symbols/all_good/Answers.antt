@@ -1,4 +1,4 @@
-use Rattle.lxt_changes.proofs.SymbolLaws.{low_bad, high_bad, grown, within}
+use Rattle.lxt_changes.proofs.SymbolLaws.{low_bad, high_bad, grown}
 use Rattle.lxt_changes.proofs.symbols.all_good.Goals as goal
 
 pub returns-then-from-low : goal.returns-then-from-low
@@ -9,8 +9,5 @@ returns-then-w-high c =
     high_bad _ _ _ _ c.requires.0 c.if-to-w.false c.if-w-from.false _
     c.good_from-low.ensures c.if-from-low.false _ c.good_from-high.ensures c.if-w-high.true
 
-pub returns-then-w-to : goal.returns-then-w-to
-returns-then-w-to c = search grown
-
 pub returns : goal.returns
-returns c = search within
+returns c = search grown

@@ -1,4 +1,4 @@
-use Rattle.lxt_changes.proofs.SymbolLaws.{bits_fit, integer_fits, real_fits, text_fits}
+use Rattle.lxt_changes.proofs.SymbolLaws.{bits_fit, integer_fits, others_fit}
 use Rattle.lxt_changes.proofs.symbols.command_fits.Goals as goal
 
 pub returns-in-Bits : goal.returns-in-Bits
@@ -8,7 +8,4 @@ pub returns-in-Integer : goal.returns-in-Integer
 returns-in-Integer c = search integer_fits
 
 pub returns-in-Real : goal.returns-in-Real
-returns-in-Real c = search real_fits
-
-pub returns-in-Text : goal.returns-in-Text
-returns-in-Text c = search text_fits
+returns-in-Real c = search others_fit
