@@ -3,6 +3,5 @@ pub mod Reading
 pub mod Tree
 pub mod Windows
 pub mod Free
-pub mod Sorting
 pub mod Sweep
 pub mod Groups
