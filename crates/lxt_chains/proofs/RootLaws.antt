@@ -62,7 +62,7 @@ pub stored_begun : (s os : List ℕ) → Stored s (length os) 0 os
 stored_begun s os = record { long = refl; upto = omega arith; are = λ g h. absurd (omega arith) }
 
 module _ (s : List ℕ) (k f : ℕ) (os : List ℕ) (w : Stored s k f os) where
-  pub stored_next : f < length os → (o : ℕ) → o ≡ root_offset s f → Stored s k (f + 1) (set os f o)
+  pub stored_next : f < k → (o : ℕ) → o ≡ root_offset s f → Stored s k (f + 1) (set os f o)
   stored_next h o eo =
       let l = w.long in
       record {
@@ -74,7 +74,7 @@ module _ (s : List ℕ) (k f : ℕ) (os : List ℕ) (w : Stored s k f os) where
         ];
       }
 
-  pub stored_ended : length os ≤ f → FirstOffsets s k os
+  pub stored_ended : k ≤ f → FirstOffsets s k os
   stored_ended h = let l = w.long in record { long = w.long; are = λ g b. w.are g (omega arith) }
 
 -- ---- what they stand for

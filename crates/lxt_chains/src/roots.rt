@@ -23,10 +23,8 @@ pub fn put_root_offsets(file: &[u8], c: Chains, nodes: &mut [u32], m: usize)
     requires { Ready file.now c × ((c.facilities ≤ m) × Blank m nodes.old) }
     ensures { Holding (root_offsets file.now) m nodes.new }
 {
-    let mut f = 0;
-    while f < c.facilities {
+    for f in 0..c.facilities {
         nodes[m + f as usize] = root_offset(file, c, f);
-        f += 1;
     }
 }
 
@@ -35,9 +33,7 @@ pub fn put_offsets(file: &[u8], c: Chains, pending: &mut [u32])
     requires { Ready file.now c × (length pending.old ≤ c.facilities) }
     ensures { FirstOffsets file.now (length pending.old) pending.new }
 {
-    let mut f = 0;
-    while f < pending.len() {
-        pending[f] = root_offset(file, c, f as u32);
-        f += 1;
+    for (f, pending) in pending.iter_mut().enumerate() {
+        *pending = root_offset(file, c, f as u32);
     }
 }
