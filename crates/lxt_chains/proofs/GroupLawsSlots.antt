@@ -227,18 +227,16 @@ module _ (base f : ℕ) (os₀ widths₀ kinds₀ os slots widths kinds : List �
     enter_asks = settles base (f + 1) f os slots widths kinds without (omega arith) (omega arith) w.groups in_window
 
     pub entered_next : (os' slots' widths' kinds' : List ℕ) → Settling base f os slots widths kinds os' slots' widths' kinds'
-        → Entered base (f + 1) os₀ widths₀ kinds₀ os' slots' widths' kinds' × (length os' ≡ length os)
+        → Entered base (f + 1) os₀ widths₀ kinds₀ os' slots' widths' kinds'
     entered_next os' slots' widths' kinds' e =
-        let a = settled base (f + 1) f os slots widths kinds without (omega arith) (omega arith) w.groups in_window os' slots' widths' kinds' e in (
-          record {
-            groups = a.groups;
-            holds = a.holds;
-            upto = a.lower (base + window - 1) w.upto;
-            long = a.long ∙ w.long;
-            alike = λ s i. then_alike (w.alike s i) (a.alike s i);
-          },
-          a.long,
-        )
+        let a = settled base (f + 1) f os slots widths kinds without (omega arith) (omega arith) w.groups in_window os' slots' widths' kinds' e in
+        record {
+          groups = a.groups;
+          holds = a.holds;
+          upto = a.lower (base + window - 1) w.upto;
+          long = a.long ∙ w.long;
+          alike = λ s i. then_alike (w.alike s i) (a.alike s i);
+        }
 
   pub entered_ended : f ≤ length os → length os ≤ f → Entered base (length os) os₀ widths₀ kinds₀ os slots widths kinds
   entered_ended a b = let e : f ≡ length os = omega arith in (rw e at w)

@@ -95,40 +95,6 @@ module _ (s : List ℕ) (f : ℕ) where
 
 -- ---- the group's width and kinds, by the root's kind
 
-module _ (kind : Kind) (width : ℕ) where
-  pub bits_wide : kind ≡ Bits → width ≡ bits_width kind width
-  unfolding bits_width
-  bits_wide e = rw e
-
-  pub integers_wide : kind ≡ Integer → 0 ≡ bits_width kind width
-  unfolding bits_width
-  integers_wide e = rw e
-
-  pub reals_wide : kind ≡ Real → 0 ≡ bits_width kind width
-  unfolding bits_width
-  reals_wide e = rw e
-
-  pub texts_wide : kind ≡ Text → 0 ≡ bits_width kind width
-  unfolding bits_width
-  texts_wide e = rw e
-
-module _ (kind : Kind) where
-  pub bits_number : kind ≡ Bits → 0 ≡ kind_number kind
-  unfolding kind_number
-  bits_number e = rw e
-
-  pub integers_number : kind ≡ Integer → 1 ≡ kind_number kind
-  unfolding kind_number
-  integers_number e = rw e
-
-  pub reals_number : kind ≡ Real → 2 ≡ kind_number kind
-  unfolding kind_number
-  reals_number e = rw e
-
-  pub texts_number : kind ≡ Text → 4 ≡ kind_number kind
-  unfolding kind_number
-  texts_number e = rw e
-
 -- ---- putting a root
 
 pub alone_none : (s : List ℕ) (f o : ℕ) (widths kinds : List ℕ) → o ≡ 0 → Alone s f o widths kinds widths kinds

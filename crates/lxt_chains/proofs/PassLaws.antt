@@ -130,11 +130,6 @@ module _ (s : List ℕ) (c : Chains) (w : Ready s c) (asked : Bool) (o : ℕ) wh
 
 -- ---- all kinds but bits
 
-pub others_are : (s : List ℕ) (kinds o : ℕ) (integers reals texts : Bool) → integers ≡ kept_as s (eqb (kinds % 2) 1) Integer 32 o → reals ≡ kept_as s (eqb (kinds / 2 % 2) 1) Real 0 o
-    → texts ≡ kept_as s (eqb (kinds / 4 % 2) 1) Text 0 o → (integers && (reals && texts)) ≡ others_kept s kinds o
-unfolding others_kept
-others_are s kinds o integers reals texts a b c = rw (a, b, c)
-
 -- there is none
 pub none_other : (s : List ℕ) (kinds o : ℕ) → kinds ≡ 0 → true ≡ others_kept s kinds o
 unfolding others_kept kept_as

@@ -71,13 +71,14 @@ fn text_passes(file: &[u8], c: Chains, asked: bool, o: usize) -> bool
 }
 
 // The change at `o` has no fault for any kind of a group but bits.
+#[tactic(auto, unfolding(crate::specs::Groups::others_kept))]
 fn others_pass(file: &[u8], c: Chains, kinds: u8, o: usize) -> bool
     requires { Ready file.now c }
     ensures { result ≡ others_kept file.now kinds o }
 {
     integer_passes(file, c, kinds % 2 == 1, o)
-        & (real_passes(file, c, kinds / 2 % 2 == 1, o)
-            & text_passes(file, c, kinds / 4 % 2 == 1, o))
+        && real_passes(file, c, kinds / 2 % 2 == 1, o)
+        && text_passes(file, c, kinds / 4 % 2 == 1, o)
 }
 
 // The change at `o` has no fault as one of bits, if there are any. Only codes of 4 bits can be wrong.
@@ -110,10 +111,9 @@ fn bits_pass(file: &[u8], c: Chains, width: u32, o: usize, w: Window) -> Passed
         };
     }
     let checked = symbols::codes_allowed(file, 4, width, delta::data_at(file, o), w);
-    let seen = checked.window;
     Passed {
         passed: checked.allowed,
-        window: seen,
+        window: checked.window,
     }
 }
 
@@ -134,33 +134,13 @@ fn passes(file: &[u8], c: Chains, width: u32, kinds: u8, o: usize, w: Window) ->
     bits_pass(file, c, width, o, w)
 }
 
-// The greater of two widths.
-fn greater(a: u16, b: u16) -> u16
-    ensures { result ≡ max a b }
-{
-    if a <= b {
-        return b;
-    }
-    a
-}
-
-// The greater of two bits.
-fn either(a: u8, b: u8) -> u8
-    ensures { result ≡ max a b }
-{
-    if a <= b {
-        return b;
-    }
-    a
-}
-
 // The kinds of two groups together.
 fn both_kinds(a: u8, b: u8) -> u8
     ensures { result ≡ both_kinds a b }
 {
-    let integers = either(a % 2, b % 2);
-    let reals = either(a / 2 % 2, b / 2 % 2);
-    let texts = either(a / 4 % 2, b / 4 % 2);
+    let integers = (a % 2).max(b % 2);
+    let reals = (a / 2 % 2).max(b / 2 % 2);
+    let texts = (a / 4 % 2).max(b / 4 % 2);
     integers + (2 * reals + 4 * texts)
 }
 
@@ -182,7 +162,7 @@ fn settle(
         return;
     }
     let g = held as usize - 1;
-    widths[g] = greater(widths[g], widths[f]);
+    widths[g] = widths[g].max(widths[f]);
     kinds[g] = both_kinds(kinds[g], kinds[f]);
     pending[f] = 0;
 }
@@ -198,10 +178,8 @@ fn settle_all(
     requires { Groups pending.old widths.old kinds.old × (Vacant slots.old × Upto pending.old (base + window - 1)) }
     ensures { Entered base (length pending.new) pending.old widths.old kinds.old pending.new slots.new widths.new kinds.new }
 {
-    let mut f = 0;
-    while f < pending.len() {
+    for f in 0..pending.len() {
         settle(pending, slots, widths, kinds, base, f);
-        f += 1;
     }
 }
 
@@ -258,8 +236,17 @@ fn decide_window(
             return so_far;
         }
         i = at - 1;
-        let seen = so_far.window;
-        so_far = visit(file, c, pending, slots, widths, kinds, base, i, seen);
+        so_far = visit(
+            file,
+            c,
+            pending,
+            slots,
+            widths,
+            kinds,
+            base,
+            i,
+            so_far.window,
+        );
         if !so_far.passed {
             return so_far;
         }
@@ -293,25 +280,24 @@ fn decide(
         if !tested.passed {
             return true;
         }
-        let seen = tested.window;
-        w = seen;
+        w = tested.window;
     }
 }
 
 // The width of bits; 0 for the other kinds.
+#[tactic(auto, unfolding(crate::specs::Groups::bits_width))]
 fn bits_width(kind: Kind, width: u32) -> u16
     requires { width ≤ widest_facility }
     ensures { result ≡ bits_width kind width }
 {
     match kind {
         Kind::Bits => width as u16,
-        Kind::Integer => 0,
-        Kind::Real => 0,
-        Kind::Text => 0,
+        Kind::Integer | Kind::Real | Kind::Text => 0,
     }
 }
 
 // The number of a kind in a group's kinds.
+#[tactic(auto, unfolding(crate::specs::Groups::kind_number))]
 fn kind_number(kind: Kind) -> u8
     ensures { result ≡ kind_number kind }
 {
@@ -332,9 +318,8 @@ fn put_group(file: &[u8], c: Chains, widths: &mut [u16], kinds: &mut [u8], f: us
         return;
     }
     let facts = geometry::own_facts(file, c.geometry, c.facilities, f as u32);
-    let kind = facts.kind;
-    widths[f] = bits_width(kind, facts.width);
-    kinds[f] = kind_number(kind);
+    widths[f] = bits_width(facts.kind, facts.width);
+    kinds[f] = kind_number(facts.kind);
 }
 
 // Makes each facility that has a pending offset a group of its own.
@@ -342,10 +327,8 @@ pub fn put_groups(file: &[u8], c: Chains, pending: &[u32], widths: &mut [u16], k
     requires { Ready file.now c × (Roots file.now c pending.now × Room pending.now widths.old kinds.old) }
     ensures { Single file.now (length pending.now) pending.now widths.new kinds.new }
 {
-    let mut f = 0;
-    while f < pending.len() {
-        put_group(file, c, widths, kinds, f, pending[f]);
-        f += 1;
+    for (f, &o) in pending.iter().enumerate() {
+        put_group(file, c, widths, kinds, f, o);
     }
 }
 

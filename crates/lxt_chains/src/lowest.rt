@@ -40,15 +40,9 @@ fn halved(file: &[u8], c: Chains, b: Bounds) -> Bounds
 {
     let middle = b.low + (b.high - b.low) / 2;
     if any_of_first(file, c, middle) {
-        return Bounds {
-            low: b.low,
-            high: middle,
-        };
+        return Bounds { high: middle, ..b };
     }
-    Bounds {
-        low: middle,
-        high: b.high,
-    }
+    Bounds { low: middle, ..b }
 }
 
 // The lowest facility whose chain has a fault, where one has.

@@ -1,10 +1,5 @@
-use Prim.Native.Nat.{◌-◌}
-use lib.ListN.{length}
 use Rattle.lxt_chains.specs.Groups.{Single}
 use Rattle.lxt_chains.proofs.groups.put_groups.Given as goal
 
 abbrev pub invariant-loop-f : goal.invariant-loop-f
 invariant-loop-f l = Single l.file l.f l.pending l.widths l.kinds
-
-abbrev pub decreases-loop-f : goal.decreases-loop-f
-decreases-loop-f l = length l.pending - l.f

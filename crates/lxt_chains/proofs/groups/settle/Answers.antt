@@ -21,4 +21,4 @@ pub bounds-kinds-g-2 : goal.bounds-kinds-g-2
 bounds-kinds-g-2 c = holder_kinds _ _ _ _ _ _ c.requires _ _ c.enter-held.ensures c.if-held-eq0.false
 
 pub returns : goal.returns
-returns c = settle_added _ _ _ _ _ _ c.requires _ _ c.enter-held.ensures c.if-held-eq0.false _ _ c.greater.ensures c.both_kinds.ensures
+returns c = settle_added _ _ _ _ _ _ c.requires _ _ c.enter-held.ensures c.if-held-eq0.false _ _ c.max.ensures c.both_kinds.ensures

@@ -1,10 +1,5 @@
-use Prim.Native.Nat.{◌-◌, ◌≤◌}
-use lib.ListN.{length}
 use Rattle.lxt_chains.specs.Groups.{Entered}
 use Rattle.lxt_chains.proofs.groups.settle_all.Given as goal
 
 abbrev pub invariant-loop-f : goal.invariant-loop-f
-invariant-loop-f l = Entered l.base l.f l.initial.pending l.initial.widths l.initial.kinds l.pending l.slots l.widths l.kinds × (l.f ≤ length l.pending)
-
-abbrev pub decreases-loop-f : goal.decreases-loop-f
-decreases-loop-f l = length l.pending - l.f
+invariant-loop-f l = Entered l.base l.f l.initial.pending l.initial.widths l.initial.kinds l.pending l.slots l.widths l.kinds
