@@ -17,11 +17,9 @@ fn put_numbers(n: u32, numbers: &mut [u32], offsets: &mut [u32])
     requires { (n ≤ length numbers.old) × (n ≤ length offsets.old) }
     ensures { (numbers.new ≡ onto (range 0 n) numbers.old) × (offsets.new ≡ onto (replicate n 0) offsets.old) }
 {
-    let mut f = 0;
-    while f < n {
+    for f in 0..n {
         numbers[f as usize] = f;
         offsets[f as usize] = 0;
-        f += 1;
     }
 }
 
@@ -31,9 +29,7 @@ fn put_by_roots(file: &[u8], t: Tables, roots: &[u32], asked: &[u8], offsets: &m
     requires { Starting file.now t asked.now offsets.old × Resolved file.now t.facilities true roots.now }
     ensures { offsets.new ≡ onto (start_offsets file.now asked.now) offsets.old }
 {
-    let mut f = t.facilities;
-    while 0 < f {
-        f -= 1;
+    for f in (0..t.facilities).rev() {
         if asked[f as usize] != 0 {
             let root = roots[f as usize];
             offsets[root as usize] = geometry::sync_of(file, t.sync as usize, t.facilities, root);
