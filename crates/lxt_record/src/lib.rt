@@ -17,11 +17,9 @@ fn unzip(pairs: &[Pair], n: usize, numbers: &mut [u32], offsets: &mut [u32])
     requires { (n ≤ length pairs.now) × (n ≤ length numbers.old) × (n ≤ length offsets.old) }
     ensures { (numbers.new ≡ over numbers.old (numbers_in pairs.now) n) × (offsets.new ≡ over offsets.old (offsets_in pairs.now) n) }
 {
-    let mut i = 0;
-    while i < n {
+    for i in 0..n {
         numbers[i] = pairs[i].number;
         offsets[i] = pairs[i].offset;
-        i += 1;
     }
 }
 
@@ -30,25 +28,16 @@ fn zip(pairs: &mut [Pair], n: usize, numbers: &[u32], offsets: &[u32])
     requires { (n ≤ length pairs.old) × (n ≤ length numbers.now) × (n ≤ length offsets.now) }
     ensures { pairs.new ≡ over pairs.old (paired numbers.now offsets.now) n }
 {
-    let mut i = 0;
-    while i < n {
+    for i in 0..n {
         pairs[i] = Pair {
             number: numbers[i],
             offset: offsets[i],
         };
-        i += 1;
     }
 }
 
 // How many pairs of a record a walk can need: one for each facility of a file.
 const ROOM: usize = Summary::MOST_FACILITIES as usize;
-
-// How many pairs of a record are copied.
-fn room_for(pairs: usize) -> usize
-    ensures { result ≡ min pairs most_facilities }
-{
-    if pairs < ROOM { pairs } else { ROOM }
-}
 
 // Starts a walk over the first `room` numbers and offsets.
 fn start_within(
@@ -85,7 +74,7 @@ pub fn start(file: &[u8], asked: &[u8], pairs: &mut [Pair]) -> StartAnswer
 {
     let mut numbers = [0u32; ROOM];
     let mut offsets = [0u32; ROOM];
-    let room = room_for(pairs.len());
+    let room = pairs.len().min(ROOM);
     unzip(pairs, room, &mut numbers, &mut offsets);
     let answer = start_within(file, asked, room, &mut numbers, &mut offsets);
     zip(pairs, room, &numbers, &offsets);
@@ -98,7 +87,7 @@ pub fn carry_on(file: &[u8], pairs: &mut [Pair], size: u32, output: &mut [u32]) 
 {
     let mut numbers = [0u32; ROOM];
     let mut offsets = [0u32; ROOM];
-    let room = room_for(pairs.len());
+    let room = pairs.len().min(ROOM);
     unzip(pairs, room, &mut numbers, &mut offsets);
     let answer = carry_within(file, room, &numbers, &mut offsets, size, output);
     zip(pairs, room, &numbers, &offsets);

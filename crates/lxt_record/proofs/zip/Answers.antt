@@ -11,7 +11,4 @@ loop-i-preserved c =
     let of_pairs : i < length c.args.pairs.now = omega (arith, c.requires.0, some) in
     let of_numbers : i < length c.args.numbers.now = omega (arith, c.requires.1, some) in
     let of_offsets : i < length c.args.offsets.now = omega (arith, c.requires.2, some) in
-    record {
-      within = omega arith;
-      pairs_so_far = pairs_turn c.args.pairs.now c.loop-i.pairs c.args.numbers.now c.args.offsets.now i c.loop-i.invariant.pairs_so_far of_pairs of_numbers of_offsets;
-    }
+    pairs_turn c.args.pairs.now c.loop-i.pairs c.args.numbers.now c.args.offsets.now i c.loop-i.invariant of_pairs of_numbers of_offsets
