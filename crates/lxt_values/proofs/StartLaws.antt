@@ -1,4 +1,5 @@
 -- The laws of what a facility shows at a time: before its first change, and by its latest one.
+use mathlib.Core.Logic.{◌⊎◌, inl, inr}
 use Rattle.std.specs.Prelude.{if◌then◌else◌}
 use Prim.Native.Nat.{ℕ}
 use mathlib.Core.Path.{◌≡◌, refl, ◌∙◌, ap}
@@ -25,23 +26,16 @@ unfolding holding_bits written
 filled width x before after h = (rw (length-replicate width x), h ∙ rw (length-replicate width x))
 
 module _ (kind : Kind) (width code : ℕ) where
-  pub bits_start : kind ≡ Bits → (x : ℕ) → x ≡ symbol_of code → (before after : List ℕ) → after ≡ replicate width x ++ drop width before
+  pub symbols_start : (kind ≡ Bits) ⊎ (kind ≡ Integer) → (x : ℕ) → x ≡ symbol_of code → (before after : List ℕ) → after ≡ replicate width x ++ drop width before
       → (given (bits_of width) ≡ given (shown (start_content kind width code))) × (after ≡ holding_bits (start_content kind width code) before)
   unfolding start_content
-  bits_start e x ex before after h = rw (e, ← ex) (filled width x before after h)
+  symbols_start (inl e) x ex before after h = rw (e, ← ex) (filled width x before after h)
+  symbols_start (inr e) x ex before after h = rw (e, ← ex) (filled width x before after h)
 
-  pub integer_start : kind ≡ Integer → (x : ℕ) → x ≡ symbol_of code → (before after : List ℕ) → after ≡ replicate width x ++ drop width before
-      → (given (bits_of width) ≡ given (shown (start_content kind width code))) × (after ≡ holding_bits (start_content kind width code) before)
-  unfolding start_content
-  integer_start e x ex before after h = rw (e, ← ex) (filled width x before after h)
-
-  pub real_start : kind ≡ Real → (before : List ℕ) → (given nothing ≡ given (shown (start_content kind width code))) × (before ≡ holding_bits (start_content kind width code) before)
+  pub others_start : (kind ≡ Real) ⊎ (kind ≡ Text) → (before : List ℕ) → (given nothing ≡ given (shown (start_content kind width code))) × (before ≡ holding_bits (start_content kind width code) before)
   unfolding start_content holding_bits written
-  real_start e before = (rw e, rw e)
-
-  pub text_start : kind ≡ Text → (before : List ℕ) → (given nothing ≡ given (shown (start_content kind width code))) × (before ≡ holding_bits (start_content kind width code) before)
-  unfolding start_content holding_bits written
-  text_start e before = (rw e, rw e)
+  others_start (inl e) before = (rw e, rw e)
+  others_start (inr e) before = (rw e, rw e)
 
 start_is : (s : List ℕ) (kind : Kind) (width : ℕ) → start_content kind width (initial_of s) ≡ initial_by s kind width
 unfolding start_content initial_by

@@ -29,23 +29,6 @@ pub none_laid : (new : List ℕ) (n : ℕ) (d : List ℕ) → length new ≡ n �
 none_laid new n d e h = record { size = e; room = h; within = omega arith; long = refl; shows = refl }
 
 module _ (new : List ℕ) (n : ℕ) (d₀ d : List ℕ) (i : ℕ) (l : Laid new n d₀ d i) where
-  -- the next element is laid
-  pub one_laid : i < n → (x : ℕ) → x ≡ get_or new i 0 → Laid new n d₀ (set d i x) (i + 1)
-  one_laid h x e =
-      let size = l.size in
-      let room = l.room in
-      let k : i < length new = omega arith in
-      let j : i < length d₀ = omega arith in
-      let g : i ≤ length new = omega arith in
-      record {
-        size = l.size;
-        room = l.room;
-        within = omega arith;
-        long = length-set d i x ∙ l.long;
-        shows = rw (l.shows, drop-cons d₀ i 0 j, add-one, take-suc new i 0 k, e)
-            (set_at (take i new) (get_or d₀ i 0) (drop (suc i) d₀) (get_or new i 0) i (length-take-le i new g) ∙ sym (append_snoc (take i new) (get_or new i 0) (drop (suc i) d₀)));
-      }
-
   -- all are laid
   pub all_laid : n ≤ i → d ≡ new ++ drop n d₀
   all_laid h =
@@ -57,13 +40,8 @@ module _ (new : List ℕ) (n : ℕ) (d₀ d : List ℕ) (i : ℕ) (l : Laid new 
 
 -- ---- one symbol at every place
 
--- no symbol is written yet
-pub fill_begun : (n x : ℕ) (d : List ℕ) → n ≤ length d → Laid (replicate n x) n d d 0
-fill_begun n x d h = none_laid (replicate n x) n d (length-replicate n x) h
-
--- one symbol more
-pub fill_turn : (n x : ℕ) (d₀ d : List ℕ) (i : ℕ) → Laid (replicate n x) n d₀ d i → i < n → Laid (replicate n x) n d₀ (set d i x) (i + 1)
-fill_turn n x d₀ d i l h = one_laid (replicate n x) n d₀ d i l h x (sym (get_or-replicate n i x 0 h))
+pub filled : (n x : ℕ) (d : List ℕ) → n ≤ length d → (new : List ℕ) → new ≡ replicate (length (take n d)) x → new ++ drop n d ≡ replicate n x ++ drop n d
+filled n x d h new e = rw (e, length-take-le n d h)
 
 -- ---- unpacking
 

@@ -24,7 +24,7 @@ pub fn first(file: &[u8], times: usize, m: u32, wide: bool) -> Entry
     let d = deltas_of(file, times, m, wide, 0);
     Entry {
         number: 0,
-        position: d.position as u64,
+        position: u64::from(d.position),
         time: biased(d.time),
     }
 }
@@ -37,7 +37,7 @@ pub fn following(file: &[u8], times: usize, m: u32, wide: bool, e: Entry) -> Ent
     let d = deltas_of(file, times, m, wide, e.number + 1);
     Entry {
         number: e.number + 1,
-        position: e.position + d.position as u64,
+        position: e.position + u64::from(d.position),
         time: e.time + d.time,
     }
 }
@@ -50,7 +50,7 @@ fn preceding(file: &[u8], times: usize, m: u32, wide: bool, e: Entry) -> Entry
     let d = deltas_of(file, times, m, wide, e.number);
     Entry {
         number: e.number - 1,
-        position: e.position - d.position as u64,
+        position: e.position - u64::from(d.position),
         time: e.time - d.time,
     }
 }
@@ -62,7 +62,7 @@ pub fn last(file: &[u8], times: usize, m: u32, wide: bool) -> Entry
 {
     let count = m as usize;
     let mut e = first(file, times, m, wide);
-    while e.number + 1 < count {
+    for _number in 1..count {
         e = following(file, times, m, wide, e);
     }
     e
@@ -75,6 +75,7 @@ pub fn down(file: &[u8], times: usize, m: u32, wide: bool, e: Entry, o: usize) -
     ensures { Latest file.now o result.number result.position result.time × (result.time ≡ biased (time_of file.now o)) }
 {
     let mut entry = e;
+    // down to the entry that is met first, not a count
     while 0 < entry.number {
         if entry.position <= o as u64 {
             return entry;

@@ -14,11 +14,7 @@ fn copy_part(file: &[u8], from: usize, count: usize, names: &mut [u8], at: usize
     requires { (from + count ≤ length file.now) × (at + count ≤ length names.old) }
     ensures { names.new ≡ paste names.old at (drop from file.now) count }
 {
-    let mut j: usize = 0;
-    while j < count {
-        names[at + j] = file[from + j];
-        j += 1;
-    }
+    names[at..at + count].copy_from_slice(&file[from..from + count]);
 }
 
 // Zeros from `from` up to `to`.
@@ -26,11 +22,7 @@ fn clear(names: &mut [u8], from: usize, to: usize)
     requires { (from ≤ to) × (to ≤ length names.old) }
     ensures { names.new ≡ paste names.old from (replicate (to - from) 0) (to - from) }
 {
-    let mut j = from;
-    while j < to {
-        names[j] = 0;
-        j += 1;
-    }
+    names[from..to].fill(0);
 }
 
 // What is left of a name table: how many names, where the next one starts, and the length of the name
@@ -78,10 +70,8 @@ pub fn expand(
         at,
         before: 0,
     };
-    let mut wanted = f + 1;
-    while 0 < wanted {
+    for _i in 0..f + 1 {
         c = next(file, end, c, names);
-        wanted -= 1;
     }
     clear(names, c.before, NameCursor::LONGEST);
     c.before

@@ -3,19 +3,15 @@ ghost use Rattle.std.specs.Prelude.{◌≡◌, ◌+◌, ◌≤◌, length};
 ghost use Rattle.lxt_format.specs.Reals.{bits_in_order, real_of};
 ghost use Rattle.lxt_values.specs.Reals.{Places};
 
-use lxt_sections::wide;
-
 // The 64 bits of the real whose data starts at `at`; byte i, lowest first, stands at place order[i].
 pub fn bits_of(file: &[u8], order: [u8; 8], at: usize) -> u64
     requires { Places order × (at + 8 ≤ length file.now) }
     ensures { result ≡ bits_in_order file.now at order }
 {
     let mut bits: u64 = 0;
-    let mut i: usize = 8;
-    while 0 < i {
-        i -= 1;
-        let place = wide(order[i]) as usize;
-        bits = bits * 256 + wide(file[at + place]) as u64;
+    for i in (0..8).rev() {
+        let place = usize::from(order[i]);
+        bits = bits * 256 + u64::from(file[at + place]);
     }
     bits
 }

@@ -35,12 +35,7 @@ pub fn fill(width: u32, symbol: u8, bits: &mut [u8])
     requires { width ≤ length bits.old }
     ensures { bits.new ≡ replicate width symbol ++ drop width bits.old }
 {
-    let count = width as usize;
-    let mut k: usize = 0;
-    while k < count {
-        bits[k] = symbol;
-        k += 1;
-    }
+    bits[..width as usize].fill(symbol);
 }
 
 // ---- the symbols of a byte in one number, the first in its lowest byte
@@ -50,7 +45,7 @@ pub fn fill(width: u32, symbol: u8, bits: &mut [u8])
 fn eight_of(byte: u8) -> u64
     ensures { little_endian 8 result ≡ symbols_of_byte 1 byte }
 {
-    let own = (byte as u64 * 0x0101_0101_0101_0101) & 0x0102_0408_1020_4080;
+    let own = (u64::from(byte) * 0x0101_0101_0101_0101) & 0x0102_0408_1020_4080;
     let codes = ((own + 0x7F7F_7F7F_7F7F_7F7F) / 128) & 0x0101_0101_0101_0101;
     codes + 0x3030_3030_3030_3030
 }
@@ -60,7 +55,7 @@ fn eight_of(byte: u8) -> u64
 fn four_of(byte: u8) -> u64
     ensures { little_endian 4 result ≡ symbols_of_byte 2 byte }
 {
-    let codes = (byte as u64 * 0x4010_0401 / 64) & 0x0303_0303;
+    let codes = (u64::from(byte) * 0x4010_0401 / 64) & 0x0303_0303;
     let low = codes & 0x0101_0101;
     let high = (codes / 2) & 0x0101_0101;
     0x3030_3030 + low + high * 42 - (low & high) * 3
@@ -70,7 +65,7 @@ fn four_of(byte: u8) -> u64
 fn two_of(byte: u8) -> u64
     ensures { little_endian 2 result ≡ symbols_of_byte 4 byte }
 {
-    symbol_of(byte / 16) as u64 + symbol_of(byte % 16) as u64 * 256
+    u64::from(symbol_of(byte / 16)) + u64::from(symbol_of(byte % 16)) * 256
 }
 
 // 8 / b codes of b bits.
@@ -78,13 +73,11 @@ fn symbols_in(byte: u8, b: usize) -> u64
     requires { Size b }
     ensures { little_endian (8 / b) result ≡ symbols_of_byte b byte }
 {
-    if b == 1 {
-        return eight_of(byte);
+    match b {
+        1 => eight_of(byte),
+        2 => four_of(byte),
+        _ => two_of(byte),
     }
-    if b == 2 {
-        return four_of(byte);
-    }
-    two_of(byte)
 }
 
 // ---- unpacking, a byte at a time
@@ -95,11 +88,9 @@ fn put(word: u64, count: usize, bits: &mut [u8], place: usize)
     ensures { bits.new ≡ placed bits.old place (little_endian count word) }
 {
     let mut rest = word;
-    let mut j: usize = 0;
-    while j < count {
+    for j in 0..count {
         bits[place + j] = (rest % 256) as u8;
-        rest = rest / 256;
-        j += 1;
+        rest /= 256;
     }
 }
 
@@ -119,17 +110,15 @@ fn unpack(file: &[u8], at: usize, b: usize, width: usize, bits: &mut [u8]) -> us
 {
     let places = 8 / b;
     let whole = width / places;
-    let mut steps: usize = 0;
-    while steps < whole {
-        step(file, at, b, steps, places, bits);
-        steps += 1;
+    for k in 0..whole {
+        step(file, at, b, k, places, bits);
     }
-    let left = width - places * steps;
+    let left = width - places * whole;
     if left == 0 {
-        return steps;
+        return whole;
     }
-    step(file, at, b, steps, left, bits);
-    steps + 1
+    step(file, at, b, whole, left, bits);
+    whole + 1
 }
 
 // The symbols of the change at `o`, at the first `width` places; what stands after them stays.
@@ -137,19 +126,17 @@ pub fn write(file: &[u8], width: u32, o: usize, bits: &mut [u8])
     requires { Drawn file.now width o × (width ≤ length bits.old) }
     ensures { bits.new ≡ symbols_at file.now width o ++ drop width bits.old }
 {
-    let command = file[o] % 16;
     let at = delta::data_at(file, o);
-    if command == 0 {
-        unpack(file, at, 1, width as usize, bits);
-        return;
+    match file[o] % 16 {
+        0 => {
+            unpack(file, at, 1, width as usize, bits);
+        }
+        1 => {
+            unpack(file, at, 2, width as usize, bits);
+        }
+        2 => {
+            unpack(file, at, 4, width as usize, bits);
+        }
+        command => fill(width, symbol_of(command - 3), bits),
     }
-    if command == 1 {
-        unpack(file, at, 2, width as usize, bits);
-        return;
-    }
-    if command == 2 {
-        unpack(file, at, 4, width as usize, bits);
-        return;
-    }
-    fill(width, symbol_of(command - 3), bits);
 }

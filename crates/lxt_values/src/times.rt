@@ -14,20 +14,14 @@ use lxt_sections::times::BIAS;
 fn with_bias(t: i64) -> u64
     ensures { result ≡ biased t }
 {
-    if t < 0 {
-        return BIAS - 1 - !t as u64;
-    }
-    BIAS + t as u64
+    t.cast_unsigned().wrapping_add(BIAS)
 }
 
 // A time without it.
 fn without_bias(x: u64) -> i64
     ensures { result ≡ unbiased x }
 {
-    if x < BIAS {
-        return !((BIAS - 1 - x) as i64);
-    }
-    (x - BIAS) as i64
+    x.wrapping_sub(BIAS).cast_signed()
 }
 
 // The time of a change at `o`, by a pass up the time table of `m` entries: that of the last entry at or
@@ -41,7 +35,7 @@ pub fn time_of(file: &[u8], times: usize, m: u32, wide: bool, o: usize) -> i64
         return 0;
     }
     let mut e = entries::first(file, times, m, wide);
-    while e.number + 1 < count {
+    for _number in 1..count {
         let next = entries::following(file, times, m, wide, e);
         if (o as u64) < next.position {
             return without_bias(e.time);
@@ -69,7 +63,7 @@ fn limit(file: &[u8], times: usize, m: u32, wide: bool, t: u64) -> usize
     if t < e.time {
         return 0;
     }
-    while e.number + 1 < count {
+    for _number in 1..count {
         e = entries::following(file, times, m, wide, e);
         if t < e.time {
             return e.position as usize;
@@ -101,8 +95,9 @@ pub fn first_below(file: &[u8], from: usize, end: usize) -> Found
 {
     let mut o = from;
     let mut visited: usize = 0;
+    // a chain of offsets, not a count
     while o != 0 {
-        visited = visited + 1;
+        visited += 1;
         if o < end {
             return Found { offset: o, visited };
         }

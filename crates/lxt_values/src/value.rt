@@ -26,13 +26,9 @@ pub fn read(
 {
     let at = delta::data_at(file, o);
     match kind {
-        Kind::Bits => {
+        Kind::Bits | Kind::Integer => {
             symbols::write(file, width, o, bits);
-            Value::Bits { width: width }
-        }
-        Kind::Integer => {
-            symbols::write(file, width, o, bits);
-            Value::Bits { width: width }
+            Value::Bits { width }
         }
         Kind::Real => {
             let word = reals::bits_of(file, order, at);
@@ -54,16 +50,11 @@ fn initial(kind: Kind, width: u32, code: u8, bits: &mut [u8]) -> Value
     ensures { (value_says result ≡ given (shown (start_content kind width code))) × (bits.new ≡ holding_bits (start_content kind width code) bits.old) }
 {
     match kind {
-        Kind::Bits => {
+        Kind::Bits | Kind::Integer => {
             symbols::fill(width, symbols::symbol_of(code), bits);
-            Value::Bits { width: width }
+            Value::Bits { width }
         }
-        Kind::Integer => {
-            symbols::fill(width, symbols::symbol_of(code), bits);
-            Value::Bits { width: width }
-        }
-        Kind::Real => Value::NotDriven,
-        Kind::Text => Value::NotDriven,
+        Kind::Real | Kind::Text => Value::NotDriven,
     }
 }
 

@@ -1,19 +1,16 @@
 use native.Mathlib.Omega.{arith}
 use Rattle.lxt_values.proofs.entries.last.Goals as goal
 
-pub loop-e-init : goal.loop-e-init
-loop-e-init c = c.first-e.ensures.0
+pub loop-number-init : goal.loop-number-init
+loop-number-init c = (c.first-e.ensures.0, omega (arith, c.first-e.ensures.1))
 
 pub following-e-requires : goal.following-e-requires
-following-e-requires c = (c.requires.0, (c.loop-e.invariant, c.loop-e-test.true))
+following-e-requires c = (c.requires.0, (c.loop-number.invariant.0, omega (arith, c.loop-number.invariant.1)))
 
-pub loop-e-smaller : goal.loop-e-smaller
-loop-e-smaller c = omega (arith, c.following-e.ensures.1, c.loop-e-test.true)
-
-pub loop-e-preserved : goal.loop-e-preserved
-loop-e-preserved c = c.following-e.ensures.0
+pub loop-number-preserved : goal.loop-number-preserved
+loop-number-preserved c = (c.following-e.ensures.0, omega (arith, c.following-e.ensures.1, c.loop-number.invariant.1))
 
 pub returns : goal.returns
 returns c =
-    let inv = c.loop-e.invariant in
-    (inv, omega (arith, c.loop-e-test.false, inv.within, c.requires.0.count))
+    let inv = c.loop-number.invariant.0 in
+    (inv, omega (arith, c.loop-number.invariant.1, inv.within, c.requires.0.count))

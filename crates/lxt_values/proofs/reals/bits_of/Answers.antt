@@ -1,4 +1,4 @@
-use Prim.Native.Nat.{◌-◌}
+use Prim.Native.Nat.{◌+◌, ◌-◌, ◌<◌}
 use borrow.Author.Rules.{rules}
 use native.Mathlib.Omega.{arith}
 use Rattle.lxt_values.proofs.RealLaws.{none_gathered, all_gathered, sum_fits, gathered}
@@ -17,10 +17,14 @@ pub bounds-file-at : goal.bounds-file-at
 bounds-file-at c = omega (arith, c.requires.0.place (c.loop-i.i - 1))
 
 pub overflow_add-bits : goal.overflow_add-bits
-overflow_add-bits c = record { fits = sum_fits _ _ _ _ _ c.loop-i.invariant c.loop-i-test.true _ c.wide.ensures.1 }
+overflow_add-bits c =
+    let small : c.from.result < 256 = rw c.from.ensures (c.type_inv.file _).fits in
+    record { fits = sum_fits _ _ _ _ _ c.loop-i.invariant c.loop-i-test.true _ small }
 
 pub loop-i-preserved : goal.loop-i-preserved
-loop-i-preserved c = gathered _ _ _ _ _ c.loop-i.invariant c.loop-i-test.true _ c.wide.ensures.1 _ c.wide-place.ensures.0 c.wide.ensures.0
+loop-i-preserved c =
+    let small : c.from.result < 256 = rw c.from.ensures (c.type_inv.file _).fits in
+    gathered _ _ _ _ _ c.loop-i.invariant c.loop-i-test.true _ small _ c.from-place.ensures c.from.ensures
 
 pub returns : goal.returns
 returns c = search all_gathered

@@ -2,19 +2,19 @@ use Rattle.lxt_values.proofs.ByteLaws.{four_fit, four_is}
 use Rattle.lxt_values.proofs.symbols.four_of.Goals as goal
 
 pub overflow_add-result : goal.overflow_add-result
-overflow_add-result c = record { fits = (four_fit c.args.byte).first }
+overflow_add-result c = record { fits = rw c.from.ensures (four_fit c.args.byte).first }
 
 pub overflow_mul-result : goal.overflow_mul-result
-overflow_mul-result c = record { fits = (four_fit c.args.byte).product }
+overflow_mul-result c = record { fits = rw c.from.ensures (four_fit c.args.byte).product }
 
 pub overflow_add-result-2 : goal.overflow_add-result-2
-overflow_add-result-2 c = record { fits = (four_fit c.args.byte).sum }
+overflow_add-result-2 c = record { fits = rw c.from.ensures (four_fit c.args.byte).sum }
 
 pub overflow_mul-result-2 : goal.overflow_mul-result-2
-overflow_mul-result-2 c = record { fits = (four_fit c.args.byte).less }
+overflow_mul-result-2 c = record { fits = rw c.from.ensures (four_fit c.args.byte).less }
 
 pub overflow_sub-result : goal.overflow_sub-result
-overflow_sub-result c = (four_fit c.args.byte).below
+overflow_sub-result c = rw c.from.ensures (four_fit c.args.byte).below
 
 pub returns : goal.returns
-returns c = four_is c.args.byte c.ranges.byte.fits
+returns c = rw c.from.ensures (four_is c.args.byte c.ranges.byte.fits)

@@ -14,24 +14,21 @@ first-e-requires c = (c.requires, omega (arith, c.if-count-eq0.false))
 pub returns-then-t-e : goal.returns-then-t-e
 returns-then-t-e c = first_later _ _ _ c.args.wide c.requires _ c.ranges.t.fits (omega (arith, c.if-count-eq0.false)) _ _ _ c.first-e.ensures.0 c.first-e.ensures.1 c.if-t-e.true
 
-pub loop-e-init : goal.loop-e-init
-loop-e-init c = (c.first-e.ensures.0, c.if-t-e.false)
+pub loop-number-init : goal.loop-number-init
+loop-number-init c = (c.first-e.ensures.0, (c.if-t-e.false, omega (arith, c.first-e.ensures.1)))
 
 pub following-e-requires : goal.following-e-requires
-following-e-requires c = (c.requires, (c.loop-e.invariant.0, c.loop-e-test.true))
+following-e-requires c = (c.requires, (c.loop-number.invariant.0, omega (arith, c.loop-number.invariant.1.1)))
 
 pub returns-then-t-e-2 : goal.returns-then-t-e-2
 returns-then-t-e-2 c =
-    let inv = c.loop-e.invariant in
-    limit_found _ _ _ c.args.wide c.requires _ c.ranges.t.fits (omega (arith, c.if-count-eq0.false)) _ _ _ inv.0 inv.1 _ _ _ c.following-e.ensures.0 c.following-e.ensures.1 c.if-t-e-2.true
+    let inv = c.loop-number.invariant in
+    limit_found _ _ _ c.args.wide c.requires _ c.ranges.t.fits (omega (arith, c.if-count-eq0.false)) _ _ _ inv.0 inv.1.0 _ _ _ c.following-e.ensures.0 c.following-e.ensures.1 c.if-t-e-2.true
 
-pub loop-e-smaller : goal.loop-e-smaller
-loop-e-smaller c = omega (arith, c.following-e.ensures.1, c.loop-e-test.true)
-
-pub loop-e-preserved : goal.loop-e-preserved
-loop-e-preserved c = (c.following-e.ensures.0, c.if-t-e-2.false)
+pub loop-number-preserved : goal.loop-number-preserved
+loop-number-preserved c = (c.following-e.ensures.0, (c.if-t-e-2.false, omega (arith, c.following-e.ensures.1, c.loop-number.invariant.1.1)))
 
 pub returns : goal.returns
 returns c =
-    let inv = c.loop-e.invariant in
-    no_limit _ _ _ c.args.wide c.requires _ c.ranges.t.fits (omega (arith, c.if-count-eq0.false)) _ _ _ inv.0 inv.1 c.loop-e-test.false
+    let inv = c.loop-number.invariant in
+    no_limit _ _ _ c.args.wide c.requires _ c.ranges.t.fits (omega (arith, c.if-count-eq0.false)) _ _ _ inv.0 inv.1.0 (omega (arith, inv.1.1))

@@ -1,9 +1,7 @@
-use Prim.Native.Nat.{◌-◌, ◌≤◌}
+use Prim.Native.Nat.{◌+◌, ◌≤◌}
+use mathlib.Core.Path.{◌≡◌}
 use Rattle.lxt_values.specs.Entries.{EntryAt}
 use Rattle.lxt_values.proofs.times.limit.Given as goal
 
-abbrev pub invariant-loop-e : goal.invariant-loop-e
-invariant-loop-e l = EntryAt l.file l.e.number l.e.position l.e.time × (l.e.time ≤ l.t)
-
-abbrev pub decreases-loop-e : goal.decreases-loop-e
-decreases-loop-e l = l.m - l.e.number
+abbrev pub invariant-loop-number : goal.invariant-loop-number
+invariant-loop-number l = EntryAt l.file l.e.number l.e.position l.e.time × ((l.e.time ≤ l.t) × (l.e.number + 1 ≡ l._number))

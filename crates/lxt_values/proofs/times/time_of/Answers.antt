@@ -11,27 +11,24 @@ returns-then-count-eq0 c = no_entry _ _ _ c.args.wide c.requires c.if-count-eq0.
 pub first-e-requires : goal.first-e-requires
 first-e-requires c = (c.requires, omega (arith, c.if-count-eq0.false))
 
-pub loop-e-init : goal.loop-e-init
-loop-e-init c = (c.first-e.ensures.0, λ h. absurd (omega (arith, c.first-e.ensures.1)))
+pub loop-number-init : goal.loop-number-init
+loop-number-init c = (c.first-e.ensures.0, (λ h. absurd (omega (arith, c.first-e.ensures.1)), omega (arith, c.first-e.ensures.1)))
 
 pub following-next-requires : goal.following-next-requires
-following-next-requires c = (c.requires, (c.loop-e.invariant.0, c.loop-e-test.true))
+following-next-requires c = (c.requires, (c.loop-number.invariant.0, omega (arith, c.loop-number.invariant.1.1)))
 
 pub returns-then-o-next : goal.returns-then-o-next
 returns-then-o-next c =
-    let inv = c.loop-e.invariant in
+    let inv = c.loop-number.invariant in
     to_z-of_z w64 _ (record { sfits = c.without_bias.type_inv })
     ∙ (c.without_bias.ensures
-    ∙ time_found _ _ _ c.args.wide c.requires (omega (arith, c.if-count-eq0.false)) _ _ _ _ inv.0 inv.1 _ _ _ c.following-next.ensures.0 c.following-next.ensures.1 c.if-o-next.true)
+    ∙ time_found _ _ _ c.args.wide c.requires (omega (arith, c.if-count-eq0.false)) _ _ _ _ inv.0 inv.1.0 _ _ _ c.following-next.ensures.0 c.following-next.ensures.1 c.if-o-next.true)
 
-pub loop-e-smaller : goal.loop-e-smaller
-loop-e-smaller c = omega (arith, c.following-next.ensures.1, c.loop-e-test.true)
-
-pub loop-e-preserved : goal.loop-e-preserved
-loop-e-preserved c = (c.following-next.ensures.0, λ h. c.if-o-next.false)
+pub loop-number-preserved : goal.loop-number-preserved
+loop-number-preserved c = (c.following-next.ensures.0, (λ h. c.if-o-next.false, omega (arith, c.following-next.ensures.1, c.loop-number.invariant.1.1)))
 
 pub returns : goal.returns
 returns c =
-    let inv = c.loop-e.invariant in
+    let inv = c.loop-number.invariant in
     to_z-of_z w64 _ (record { sfits = c.without_bias-2.type_inv })
-    ∙ (c.without_bias-2.ensures ∙ time_of_last _ _ _ c.args.wide c.requires (omega (arith, c.if-count-eq0.false)) _ _ _ _ inv.0 inv.1 c.loop-e-test.false)
+    ∙ (c.without_bias-2.ensures ∙ time_of_last _ _ _ c.args.wide c.requires (omega (arith, c.if-count-eq0.false)) _ _ _ _ inv.0 inv.1.0 (omega (arith, inv.1.1)))

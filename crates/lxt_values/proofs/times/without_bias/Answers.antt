@@ -1,8 +1,6 @@
-use Rattle.lxt_values.proofs.BiasLaws.{below_bias, from_bias}
+use borrow.Author.Rules.{rules}
+use Rattle.lxt_values.proofs.BiasLaws.{without_bias_is}
 use Rattle.lxt_values.proofs.times.without_bias.Goals as goal
 
-pub returns-then-x-lt-BIAS : goal.returns-then-x-lt-BIAS
-returns-then-x-lt-BIAS c = below_bias _ c.if-x-lt-BIAS.true
-
 pub returns : goal.returns
-returns c = from_bias _ c.if-x-lt-BIAS.false c.ranges.x.fits
+returns c = without_bias_is _ c.ranges.x.fits _ (search rules) c.cast_signed.ensures
