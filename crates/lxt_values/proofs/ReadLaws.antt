@@ -10,7 +10,6 @@ use lib.Dec.{lit<}
 use native.Mathlib.Omega.{arith}
 use native.Mathlib.Decide.{ℕ_discrete}
 use borrow.Author.Tests.{eq-eqb, ne_eqb}
-use Rattle.lxt_format.specs.Basics.{given}
 use Rattle.lxt_format.specs.Bytes.{to_zero}
 use Rattle.lxt_format.specs.Sections.{changes_from, end_of}
 use Rattle.lxt_format.specs.Reals.{byte_order, bits_in_order, real_bits}
@@ -67,7 +66,7 @@ module _ (s : List ℕ) (end : ℕ) (order : List ℕ) (kind : Kind) (width o ro
     bits_drawn = (drawn (rw e), w.enough)
 
     pub bits_read : (before after : List ℕ) → after ≡ symbols_at s width o ++ drop width before
-        → (given (bits_of width) ≡ given (shown (content_by s kind width o))) × (after ≡ holding_bits (content_by s kind width o) before)
+        → (bits_of width ≡ shown (content_by s kind width o)) × (after ≡ holding_bits (content_by s kind width o) before)
     unfolding content_by holding_bits written
     bits_read before after h =
         let long = symbols_long s width o bits_drawn.0 in
@@ -79,7 +78,7 @@ module _ (s : List ℕ) (end : ℕ) (order : List ℕ) (kind : Kind) (width o ro
     integer_drawn = (drawn (rw e), w.enough)
 
     pub integer_read : (before after : List ℕ) → after ≡ symbols_at s width o ++ drop width before
-        → (given (bits_of width) ≡ given (shown (content_by s kind width o))) × (after ≡ holding_bits (content_by s kind width o) before)
+        → (bits_of width ≡ shown (content_by s kind width o)) × (after ≡ holding_bits (content_by s kind width o) before)
     unfolding content_by holding_bits written
     integer_read before after h =
         let long = symbols_long s width o integer_drawn.0 in
@@ -96,7 +95,7 @@ module _ (s : List ℕ) (end : ℕ) (order : List ℕ) (kind : Kind) (width o ro
           (w.places e, omega arith)
 
       pub real_read : (word : ℕ) → word ≡ bits_in_order s at order → (x : Float) → x ≡ R.real_of word → (before : List ℕ)
-          → (given (real_of x word) ≡ given (shown (content_by s kind width o))) × (before ≡ holding_bits (content_by s kind width o) before)
+          → (real_of x word ≡ shown (content_by s kind width o)) × (before ≡ holding_bits (content_by s kind width o) before)
       unfolding content_by holding_bits written real_bits
       real_read word ew x ex before =
           let v : word ≡ bits_in_order s (data_at s o) (byte_order s) = ew ∙ rw (at-is, w.ordered e) in
@@ -114,6 +113,6 @@ module _ (s : List ℕ) (end : ℕ) (order : List ℕ) (kind : Kind) (width o ro
           omega arith
 
       pub text_read : (before : List ℕ)
-          → (given (text_of at n) ≡ given (shown (content_by s kind width o))) × (before ≡ holding_bits (content_by s kind width o) before)
+          → (text_of at n ≡ shown (content_by s kind width o)) × (before ≡ holding_bits (content_by s kind width o) before)
       unfolding content_by holding_bits written
       text_read before = (rw (e, en, at-is, w.limit), rw e)

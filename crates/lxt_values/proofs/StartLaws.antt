@@ -8,7 +8,6 @@ use lib.ListN.{drop, replicate, length-replicate}
 use lib.IntN.{ℤ}
 use lib.Dec.{eqb}
 use borrow.Author.Tests.{ne_eqb}
-use Rattle.lxt_format.specs.Basics.{Answer, given}
 use Rattle.lxt_format.specs.Sections.{initial_of}
 use Rattle.lxt_format.specs.Geometry.{own_facts}
 use Rattle.lxt_format.specs.Values.{bits, symbol_of, content_by, content_of, change_at, initial_by, content_at}
@@ -21,18 +20,18 @@ use Rattle.lxt_values.specs.Value.{start_content, content_from}
 -- ---- before the first change
 
 filled : (width x : ℕ) (before after : List ℕ) → after ≡ replicate width x ++ drop width before
-    → (given (bits_of width) ≡ given (shown (bits (replicate width x)))) × (after ≡ holding_bits (bits (replicate width x)) before)
+    → (bits_of width ≡ shown (bits (replicate width x))) × (after ≡ holding_bits (bits (replicate width x)) before)
 unfolding holding_bits written
 filled width x before after h = (rw (length-replicate width x), h ∙ rw (length-replicate width x))
 
 module _ (kind : Kind) (width code : ℕ) where
   pub symbols_start : (kind ≡ Bits) ⊎ (kind ≡ Integer) → (x : ℕ) → x ≡ symbol_of code → (before after : List ℕ) → after ≡ replicate width x ++ drop width before
-      → (given (bits_of width) ≡ given (shown (start_content kind width code))) × (after ≡ holding_bits (start_content kind width code) before)
+      → (bits_of width ≡ shown (start_content kind width code)) × (after ≡ holding_bits (start_content kind width code) before)
   unfolding start_content
   symbols_start (inl e) x ex before after h = rw (e, ← ex) (filled width x before after h)
   symbols_start (inr e) x ex before after h = rw (e, ← ex) (filled width x before after h)
 
-  pub others_start : (kind ≡ Real) ⊎ (kind ≡ Text) → (before : List ℕ) → (given nothing ≡ given (shown (start_content kind width code))) × (before ≡ holding_bits (start_content kind width code) before)
+  pub others_start : (kind ≡ Real) ⊎ (kind ≡ Text) → (before : List ℕ) → (nothing ≡ shown (start_content kind width code)) × (before ≡ holding_bits (start_content kind width code) before)
   unfolding start_content holding_bits written
   others_start (inl e) before = (rw e, rw e)
   others_start (inr e) before = (rw e, rw e)
@@ -51,13 +50,13 @@ pub content_at_lem : (s : List ℕ) (f : ℕ) (t : ℤ) (o : ℕ) → o ≡ chan
 unfolding content_from content_at content_of
 content_at_lem s f t o e = rw (← e) (ap (λ start. if eqb o 0 then start else content_by s (own_facts s f).kind (own_facts s f).width o) (start_is s (own_facts s f).kind (own_facts s f).width))
 
-module _ (s : List ℕ) (code : ℕ) (kind : Kind) (width o : ℕ) (v : Answer Shown) (before after : List ℕ) where
-  pub by_start : o ≡ 0 → (v ≡ given (shown (start_content kind width code))) × (after ≡ holding_bits (start_content kind width code) before)
-      → (v ≡ given (shown (content_from s code kind width o))) × (after ≡ holding_bits (content_from s code kind width o) before)
+module _ (s : List ℕ) (code : ℕ) (kind : Kind) (width o : ℕ) (v : Shown) (before after : List ℕ) where
+  pub by_start : o ≡ 0 → (v ≡ shown (start_content kind width code)) × (after ≡ holding_bits (start_content kind width code) before)
+      → (v ≡ shown (content_from s code kind width o)) × (after ≡ holding_bits (content_from s code kind width o) before)
   unfolding content_from
   by_start e h = rw e h
 
-  pub by_change : (o ≡ 0 → ⊥) → (v ≡ given (shown (content_by s kind width o))) × (after ≡ holding_bits (content_by s kind width o) before)
-      → (v ≡ given (shown (content_from s code kind width o))) × (after ≡ holding_bits (content_from s code kind width o) before)
+  pub by_change : (o ≡ 0 → ⊥) → (v ≡ shown (content_by s kind width o)) × (after ≡ holding_bits (content_by s kind width o) before)
+      → (v ≡ shown (content_from s code kind width o)) × (after ≡ holding_bits (content_from s code kind width o) before)
   unfolding content_from
   by_change n h = simp (ne_eqb o 0 n) h

@@ -1,8 +1,7 @@
 // The value of a change.
 ghost use Rattle.std.specs.Prelude.{◌≡◌, ◌≤◌, length};
-ghost use Rattle.lxt_format.specs.Basics.{given};
 ghost use Rattle.lxt_format.specs.Values.{content_by};
-ghost use Rattle.lxt_format.specs.Answers.{shown, value_says};
+ghost use Rattle.lxt_format.specs.Answers.{shown, value_shown};
 ghost use Rattle.lxt_format.specs.Questions.{holding_bits};
 ghost use Rattle.lxt_values.specs.Value.{start_content, content_from, Readies, Shows};
 
@@ -22,7 +21,7 @@ pub fn read(
     bits: &mut [u8],
 ) -> Value
     requires { Readies file.now end order kind width o (length bits.old) }
-    ensures { (value_says result ≡ given (shown (content_by file.now kind width o))) × (bits.new ≡ holding_bits (content_by file.now kind width o) bits.old) }
+    ensures { (value_shown result ≡ shown (content_by file.now kind width o)) × (bits.new ≡ holding_bits (content_by file.now kind width o) bits.old) }
 {
     let at = delta::data_at(file, o);
     match kind {
@@ -47,7 +46,7 @@ pub fn read(
 // What a facility shows before its first change: the initial symbol at every place, or nothing.
 fn initial(kind: Kind, width: u32, code: u8, bits: &mut [u8]) -> Value
     requires { width ≤ length bits.old }
-    ensures { (value_says result ≡ given (shown (start_content kind width code))) × (bits.new ≡ holding_bits (start_content kind width code) bits.old) }
+    ensures { (value_shown result ≡ shown (start_content kind width code)) × (bits.new ≡ holding_bits (start_content kind width code) bits.old) }
 {
     match kind {
         Kind::Bits | Kind::Integer => {
@@ -71,7 +70,7 @@ pub fn at(
     bits: &mut [u8],
 ) -> Value
     requires { Shows file.now end order kind width o (length bits.old) }
-    ensures { (value_says result ≡ given (shown (content_from file.now code kind width o))) × (bits.new ≡ holding_bits (content_from file.now code kind width o) bits.old) }
+    ensures { (value_shown result ≡ shown (content_from file.now code kind width o)) × (bits.new ≡ holding_bits (content_from file.now code kind width o) bits.old) }
 {
     if o == 0 {
         return initial(kind, width, code, bits);
