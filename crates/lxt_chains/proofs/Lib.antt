@@ -22,3 +22,4 @@ pub mod NextLaws
 pub mod RootLaws
 pub mod FittingLaws
 pub mod WholeWays
+pub mod JudgedLaws

@@ -11,12 +11,14 @@ use lib.Seq.{get_or-set_same, get_or-set_other, drop-set-lt, get_or-take, length
 use lib.Dec.{ltb, eqb}
 use borrow.Author.Tests.{eq-eqb, ne_eqb, le-leb, lt-leb, ltb-true, ltb-false, eqb-false}
 use Rattle.lxt_format.specs.Basics.{Answer, given, refused, range, any}
-use Rattle.lxt_format.specs.BasicsLaws.{or_either, or_none, stops, answer_given, answer_refused, length_range, range_upto, range_done}
+use Rattle.lxt_chains.specs.Reading.{examined_of, examined}
+use Rattle.lxt_chains.specs.declared.whole.Examined.{Examined}
+use Rattle.lxt_chains.proofs.JudgedLaws.{accepted as judged_accepted}
+use Rattle.lxt_format.specs.BasicsLaws.{or_either, or_none, stops, was_refused, answer_given, answer_refused, length_range, range_upto, range_done}
 use Rattle.lxt_format.specs.Sections.{facility_count}
 use Rattle.lxt_format.specs.Geometry.{root_of, sync_of}
 use Rattle.lxt_format.proofs.GeometryLaws.{root_below}
 use Rattle.lxt_format.specs.Judge.{file_refusal}
-use Rattle.lxt_format.proofs.JudgeLaws.{accepted}
 use Rattle.lxt_format.specs.Columns.{paired, numbers_in, offsets_in, onto}
 use Rattle.lxt_format.specs.Walk.{asks, start_offsets, with_offsets}
 use Rattle.lxt_format.specs.Questions.{start_refusal, start_asked, start_record}
@@ -24,7 +26,7 @@ use Rattle.lxt_tables.specs.Stage.{Geometry, tables_of}
 use Rattle.lxt_tables.specs.Asked.{Sync, Roots, Resolved}
 use Rattle.lxt_tables.specs.declared.Tables.{Tables}
 use Rattle.lxt_tables.proofs.AliasLaws.{none_known}
-use Rattle.lxt_tables.proofs.TablesLaws.{Known, known, refusal_is}
+use Rattle.lxt_tables.proofs.TablesLaws.{Known, tables_known}
 use Rattle.lxt_chains.proofs.Bridge.{length_start, get_d_start}
 use Rattle.lxt_walk.proofs.ColumnsLaws.{length_paired, numbers_onto, offsets_onto, length_onto, onto_next, onto_again, numbers_with, offsets_with_given}
 use Rattle.lxt_walk.specs.Carrying.{Starting}
@@ -90,10 +92,6 @@ module _ (n : ℕ) (ns₀ os₀ : List ℕ) (f : ℕ) (ns os : List ℕ) (w : Nu
 
 -- ---- the roots asked for
 
--- the tables of an accepted file
-pub start_known : (s : List ℕ) (t : Tables) → t ≡ tables_of s → file_refusal s ≡ 0 → Known s t
-start_known s t e h = known s t e (refusal_is s t e ∙ (accepted s h).tables)
-
 module _ (s : List ℕ) (asked : List ℕ) where
   -- facility h asks for the root g
   abbrev wants : ℕ → ℕ → Bool
@@ -135,21 +133,21 @@ asked_begun s t asked os w =
 
 module _ (s : List ℕ) (t : Tables) (asked os₀ : List ℕ) (w : Starting s t asked os₀) where
   pub asked_geometry : Geometry s t.geometry t.facilities
-  asked_geometry = (start_known s t w.tables w.accepted).geometry_at
+  asked_geometry = (tables_known s t w.tables w.accepted).geometry_at
 
   pub asked_none_known : Roots s t.facilities 0 (replicate 4096 0xFFFF_FFFF)
-  asked_none_known = none_known s t.facilities (start_known s t w.tables w.accepted).few
+  asked_none_known = none_known s t.facilities (tables_known s t w.tables w.accepted).few
 
   -- a file that is accepted has a root for each facility
   pub asked_resolved : (b : Bool) (roots : List ℕ) → Resolved s t.facilities b roots → Resolved s t.facilities true roots
   asked_resolved b roots d =
-      let e : b ≡ true = d.answer ∙ (start_known s t w.tables w.accepted).passed.aliases in
+      let e : b ≡ true = d.answer ∙ (tables_known s t w.tables w.accepted).passed.aliases in
       rw e at d
 
 module _ (s : List ℕ) (t : Tables) (asked os₀ : List ℕ) (w : Starting s t asked os₀) (roots : List ℕ) (d : Resolved s t.facilities true roots)
     (k : ℕ) (os : List ℕ) (v : Asking s t.facilities asked os₀ k os) where
   tables_there : Known s t
-  tables_there = start_known s t w.tables w.accepted
+  tables_there = tables_known s t w.tables w.accepted
 
   pub asked_sync : Sync s t.sync t.facilities
   asked_sync = tables_there.sync_at
@@ -240,70 +238,77 @@ module _ (s asked ns os : List ℕ) where
         (sym (ap (λ ps. onto (numbers_in ps) ns) same ∙ numbers_onto ns os), sym (ap (λ ps. onto (offsets_in ps) os) same ∙ offsets_onto ns os)),
       )
 
-  module _ (r : ℕ) (er : r ≡ file_refusal s) (t : Tables) (et : t ≡ tables_of s) where
-    pub start_refused : (r ≡ 0 → ⊥) → Outcome s asked ns os (refused r) ns os
+  pub start_refused : (n : ℕ) → refused n ≡ examined s → Outcome s asked ns os (refused n) ns os
+  unfolding start_refusal
+  start_refused n h =
+      let w = was_refused (file_refusal s) n (examined_of s) h in
+      none_changed n (w.0 ∙ sym (stops (file_refusal s) _ w.1)) (λ z. w.1 (sym w.0 ∙ z))
+
+  module _ (x : Examined) (h : given x ≡ examined s) where
+    abbrev t : Tables
+    t = x.tables
+
+    fine : file_refusal s ≡ 0
+    fine = (judged_accepted s x h).refusal
+
+    et : t ≡ tables_of s
+    et = (judged_accepted s x h).tables
+
+    count : t.facilities ≡ facility_count s
+    count = (tables_known s t et fine).facilities
+
+    pub start_no_room : (ltb (length ns) t.facilities || ltb (length os) t.facilities) ≡ true → Outcome s asked ns os (refused 21) ns os
     unfolding start_refusal
-    start_refused n = none_changed r (er ∙ sym (stops (file_refusal s) _ (λ z. n (er ∙ z)))) n
+    start_no_room q =
+        let c = count in
+        let l = length_paired ns os in
+        let short : length (paired ns os) < facility_count s =
+        or_either (ltb (length ns) t.facilities) (ltb (length os) t.facilities) q
+        (λ a. let b : length ns < t.facilities = ltb-true _ _ a in omega arith) (λ a. let b : length os < t.facilities = ltb-true _ _ a in omega arith) in
+        none_changed 21 (sym (rw (fine, lt-leb (facility_count s) (length (paired ns os)) short))) (λ z. eqb-false 21 0 refl z)
 
-    module _ (h : r ≡ 0) where
-      fine : file_refusal s ≡ 0
-      fine = sym er ∙ h
+    module _ (q : (ltb (length ns) t.facilities || ltb (length os) t.facilities) ≡ false) where
+      pub start_room : (t.facilities ≤ length ns) × (t.facilities ≤ length os)
+      start_room =
+          let b = or_none (ltb (length ns) t.facilities) (ltb (length os) t.facilities) q in (ltb-false _ _ b.0, ltb-false _ _ b.1)
 
-      count : t.facilities ≡ facility_count s
-      count = (start_known s t et fine).facilities
+      enough : facility_count s ≤ length (paired ns os)
+      enough = let c = count in let l = length_paired ns os in let b = start_room.0 in let d = start_room.1 in omega arith
 
-      pub start_no_room : (ltb (length ns) t.facilities || ltb (length os) t.facilities) ≡ true → Outcome s asked ns os (refused 21) ns os
+      pub start_other_length : (length asked ≡ t.facilities → ⊥) → Outcome s asked ns os (refused 22) ns os
       unfolding start_refusal
-      start_no_room q =
+      start_other_length n =
           let c = count in
-          let l = length_paired ns os in
-          let short : length (paired ns os) < facility_count s =
-          or_either (ltb (length ns) t.facilities) (ltb (length os) t.facilities) q
-          (λ a. let b : length ns < t.facilities = ltb-true _ _ a in omega arith) (λ a. let b : length os < t.facilities = ltb-true _ _ a in omega arith) in
-          none_changed 21 (sym (rw (fine, lt-leb (facility_count s) (length (paired ns os)) short))) (λ z. eqb-false 21 0 refl z)
+          let d : length asked ≡ facility_count s → ⊥ = λ z. n (z ∙ sym c) in
+          none_changed 22 (sym (rw (fine, le-leb (facility_count s) (length (paired ns os)) enough, ne_eqb _ _ d))) (λ z. eqb-false 22 0 refl z)
 
-      module _ (q : (ltb (length ns) t.facilities || ltb (length os) t.facilities) ≡ false) where
-        pub start_room : (t.facilities ≤ length ns) × (t.facilities ≤ length os)
-        start_room =
-            let b = or_none (ltb (length ns) t.facilities) (ltb (length os) t.facilities) q in (ltb-false _ _ b.0, ltb-false _ _ b.1)
+      module _ (k : length asked ≡ t.facilities) (ns' os' : List ℕ) (en : ns' ≡ onto (range 0 t.facilities) ns) (eo : os' ≡ onto (replicate t.facilities 0) os) where
+        pub start_asks : Starting s t asked os'
+        start_asks =
+            let n : ℕ = t.facilities in
+            let z : length (replicate {A = ℕ} n 0) ≡ n = length-replicate n 0 in
+            let b = start_room.1 in
+            record {
+              tables = et;
+              accepted = fine;
+              bytes = k;
+              room = rw (eo, length_onto (replicate n 0) os (omega arith)) b;
+              none = λ f l. rw eo (get_or-append (replicate n 0) (drop (length (replicate {A = ℕ} n 0)) os) 0 f (omega arith) ∙ get_or-replicate n f 0 0 l);
+            }
 
-        enough : facility_count s ≤ length (paired ns os)
-        enough = let c = count in let l = length_paired ns os in let b = start_room.0 in let d = start_room.1 in omega arith
-
-        pub start_other_length : (length asked ≡ t.facilities → ⊥) → Outcome s asked ns os (refused 22) ns os
-        unfolding start_refusal
-        start_other_length n =
+        pub start_done : (os'' : List ℕ) → os'' ≡ onto (start_offsets s asked) os' → Outcome s asked ns os (given tt) ns' os''
+        unfolding start_asked start_record start_refusal
+        start_done os'' e =
             let c = count in
-            let d : length asked ≡ facility_count s → ⊥ = λ z. n (z ∙ sym c) in
-            none_changed 22 (sym (rw (fine, le-leb (facility_count s) (length (paired ns os)) enough, ne_eqb _ _ d))) (λ z. eqb-false 22 0 refl z)
-
-        module _ (k : length asked ≡ t.facilities) (ns' os' : List ℕ) (en : ns' ≡ onto (range 0 t.facilities) ns) (eo : os' ≡ onto (replicate t.facilities 0) os) where
-          pub start_asks : Starting s t asked os'
-          start_asks =
-              let n : ℕ = t.facilities in
-              let z : length (replicate {A = ℕ} n 0) ≡ n = length-replicate n 0 in
-              let b = start_room.1 in
-              record {
-                tables = et;
-                accepted = fine;
-                bytes = k;
-                room = rw (eo, length_onto (replicate n 0) os (omega arith)) b;
-                none = λ f l. rw eo (get_or-append (replicate n 0) (drop (length (replicate {A = ℕ} n 0)) os) 0 f (omega arith) ∙ get_or-replicate n f 0 0 l);
-              }
-
-          pub start_done : (os'' : List ℕ) → os'' ≡ onto (start_offsets s asked) os' → Outcome s asked ns os (given tt) ns' os''
-          unfolding start_asked start_record start_refusal
-          start_done os'' e =
-              let c = count in
-              let z : start_refusal s asked (length (paired ns os)) ≡ 0 =
-              rw (fine, le-leb (facility_count s) (length (paired ns os)) enough, eq-eqb (length asked) (facility_count s) (k ∙ c)) in
-              let same : start_record s asked (paired ns os) ≡ with_offsets (paired ns os) (start_offsets s asked) = rw z in
-              let l : length (start_offsets s asked) ≡ t.facilities = length_start s asked ∙ sym c in (
-                sym (answer_given (start_refusal s asked (length (paired ns os))) tt z),
-                (
-                  en ∙ sym (ap (λ ps. onto (numbers_in ps) ns) same ∙ numbers_with ns os (start_offsets s asked) ∙ rw l),
-                  e
-                      ∙ rw eo (onto_again (start_offsets s asked) (replicate t.facilities 0) os (l ∙ sym (length-replicate t.facilities 0)))
-                      ∙ sym (ap (λ ps. onto (offsets_in ps) os) same ∙ offsets_with_given ns os (start_offsets s asked)),
-                ),
-              )
+            let z : start_refusal s asked (length (paired ns os)) ≡ 0 =
+            rw (fine, le-leb (facility_count s) (length (paired ns os)) enough, eq-eqb (length asked) (facility_count s) (k ∙ c)) in
+            let same : start_record s asked (paired ns os) ≡ with_offsets (paired ns os) (start_offsets s asked) = rw z in
+            let l : length (start_offsets s asked) ≡ t.facilities = length_start s asked ∙ sym c in (
+              sym (answer_given (start_refusal s asked (length (paired ns os))) tt z),
+              (
+                en ∙ sym (ap (λ ps. onto (numbers_in ps) ns) same ∙ numbers_with ns os (start_offsets s asked) ∙ rw l),
+                e
+                    ∙ rw eo (onto_again (start_offsets s asked) (replicate t.facilities 0) os (l ∙ sym (length-replicate t.facilities 0)))
+                    ∙ sym (ap (λ ps. onto (offsets_in ps) os) same ∙ offsets_with_given ns os (start_offsets s asked)),
+              ),
+            )

@@ -1,29 +1,29 @@
 -- Paper 01, "The whole walk (demand 3)": a list of calls, and what it is to tell. `Demand3`, at the end, is the claim; proofs/Demand proves it.
-use Rattle.std.specs.Prelude.{ℕ, ◌+◌, ◌*◌, ◌-◌, ◌≤◌, ◌<◌, min, ◌≡◌, ◌↔◌, Bool, true, false, List, [], ◌∷◌, ◌++◌, length, get_or, take, drop}
+use Rattle.std.specs.Prelude.{ℕ, ◌+◌, ◌*◌, ◌-◌, ◌≤◌, ◌<◌, min, ◌≡◌, ◌↔◌, Bool, true, false, List, [], ◌∷◌, ◌++◌, length, get_or, take, drop, Result}
 use Rattle.lxt_format.specs.Basics.{Answer, given, refused}
 use Rattle.lxt_format.specs.Walk.{asks, full_list, flat}
-use Rattle.lxt_format.specs.Answers.{start_says, carry_says}
+use Rattle.lxt_format.specs.Answers.{says, carry_says}
 use Rattle.lxt_format.specs.Questions.{start_asked, start_record, carry_asked, carry_record, carry_output}
 use Rattle.lxt_format.specs.Batches.{changes_asked, changes_record, changes_output, changes_buffer}
 use Rattle.lxt_format.specs.declared.Pair.{Pair}
-use Rattle.lxt_format.specs.declared.StartAnswer.{StartAnswer}
-use Rattle.lxt_format.specs.declared.CarryAnswer.{CarryAnswer}
+use Rattle.lxt_format.specs.declared.Handed.{Handed as HandedOut}
+use Rattle.lxt_format.specs.declared.refusal.Refusal.{Refusal}
 use Rattle.lxt_chains.specs.Pending.{pair_of, first_of}
 
 -- ---- the calls
 
 -- What `lxt_record::start` promises: its answer, and the record after it
-abbrev pub Starts : (s asked : List ℕ) (before : List Pair) (answer : StartAnswer) (after : List Pair) → Type 0
-Starts s asked before answer after = (start_says answer ≡ start_asked s asked (length before)) × (after ≡ start_record s asked before)
+abbrev pub Starts : (s asked : List ℕ) (before : List Pair) (answer : Result (Unit {0}) Refusal) (after : List Pair) → Type 0
+Starts s asked before answer after = (says answer ≡ start_asked s asked (length before)) × (after ≡ start_record s asked before)
 
 -- What `lxt_record::carry_on` promises: its answer, and the output buffer and the record after it
-abbrev pub Carries : (s : List ℕ) (pairs : List Pair) (size : ℕ) (buffer : List ℕ) (answer : CarryAnswer) (output : List ℕ) (left : List Pair) → Type 0
+abbrev pub Carries : (s : List ℕ) (pairs : List Pair) (size : ℕ) (buffer : List ℕ) (answer : Result HandedOut Refusal) (output : List ℕ) (left : List Pair) → Type 0
 Carries s pairs size buffer answer output left =
     (carry_says answer ≡ carry_asked s pairs size (length buffer))
     × ((output ≡ carry_output s pairs size buffer) × (left ≡ carry_record s pairs size (length buffer)))
 
 -- What carrying on by rows is to promise, when there is such a call: its answer, and the rows, the bits and the record after it
-abbrev pub CarriesRows : (s : List ℕ) (pairs : List Pair) (size : ℕ) (rows : List (List ℕ)) (bits : List ℕ) (answer : CarryAnswer) (rows' : List (List ℕ)) (bits' : List ℕ) (left : List Pair) → Type 0
+abbrev pub CarriesRows : (s : List ℕ) (pairs : List Pair) (size : ℕ) (rows : List (List ℕ)) (bits : List ℕ) (answer : Result HandedOut Refusal) (rows' : List (List ℕ)) (bits' : List ℕ) (left : List Pair) → Type 0
 CarriesRows s pairs size rows bits answer rows' bits' left =
     (carry_says answer ≡ changes_asked s pairs size (length rows) (length bits))
     × ((rows' ≡ changes_output s pairs size rows (length bits))
@@ -31,15 +31,15 @@ CarriesRows s pairs size rows bits answer rows' bits' left =
 
 -- "The calls are one start that is not refused": it was lent the record `before`, and left the record `started`
 pub record Started (s asked : List ℕ) (before started : List Pair) : Type 0 where
-  pub answer : StartAnswer
+  pub answer : Result (Unit {0}) Refusal
   pub promised : Starts s asked before answer started
-  pub not_refused : start_says answer ≡ given tt
+  pub not_refused : says answer ≡ given tt
 
 -- a carry-on call: its size, its output buffer before, its answer, and the output buffer and the record as it left them
 pub record Made : Type 0 where
   pub size : ℕ
   pub buffer : List ℕ
-  pub answer : CarryAnswer
+  pub answer : Result HandedOut Refusal
   pub output : List ℕ
   pub left : List Pair
 

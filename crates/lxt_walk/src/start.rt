@@ -1,7 +1,7 @@
 // Starting a walk.
 ghost use Rattle.std.specs.Prelude.{◌≡◌, true, ◌≤◌, length, replicate};
 ghost use Rattle.lxt_format.specs.Basics.{range};
-ghost use Rattle.lxt_format.specs.Answers.{start_says};
+ghost use Rattle.lxt_format.specs.Answers.{says};
 ghost use Rattle.lxt_format.specs.Columns.{paired, numbers_in, offsets_in, onto};
 ghost use Rattle.lxt_format.specs.Walk.{start_offsets};
 ghost use Rattle.lxt_format.specs.Questions.{start_asked, start_record};
@@ -9,7 +9,7 @@ ghost use Rattle.lxt_tables.specs.Asked.{Resolved};
 ghost use Rattle.lxt_walk.specs.Carrying.{Starting};
 
 use lxt_chains::whole::judged;
-use lxt_format::StartAnswer;
+use lxt_format::Refusal;
 use lxt_tables::{Tables, aliases, geometry};
 
 // Stores the numbers of the first `n` facilities, and 0 as the pending offset of each.
@@ -48,22 +48,23 @@ fn put_asked(file: &[u8], t: Tables, asked: &[u8], offsets: &mut [u32])
 }
 
 // Starts a walk over the facilities whose byte in `asked` is not 0.
-pub fn start(file: &[u8], asked: &[u8], numbers: &mut [u32], offsets: &mut [u32]) -> StartAnswer
-    ensures { (start_says result ≡ start_asked file.now asked.now (length (paired numbers.old offsets.old))) × ((numbers.new ≡ onto (numbers_in (start_record file.now asked.now (paired numbers.old offsets.old))) numbers.old) × (offsets.new ≡ onto (offsets_in (start_record file.now asked.now (paired numbers.old offsets.old))) offsets.old)) }
+pub fn start(
+    file: &[u8],
+    asked: &[u8],
+    numbers: &mut [u32],
+    offsets: &mut [u32],
+) -> Result<(), Refusal>
+    ensures { (says result ≡ start_asked file.now asked.now (length (paired numbers.old offsets.old))) × ((numbers.new ≡ onto (numbers_in (start_record file.now asked.now (paired numbers.old offsets.old))) numbers.old) × (offsets.new ≡ onto (offsets_in (start_record file.now asked.now (paired numbers.old offsets.old))) offsets.old)) }
 {
-    let j = judged(file);
-    if j.refusal != 0 {
-        return StartAnswer::Refused(j.refusal);
-    }
-    let t = j.tables;
+    let t = judged(file)?.tables;
     let n = t.facilities as usize;
     if (numbers.len() < n) | (offsets.len() < n) {
-        return StartAnswer::Refused(21);
+        return Err(Refusal::Room);
     }
     if asked.len() != n {
-        return StartAnswer::Refused(22);
+        return Err(Refusal::AskedBytes);
     }
     put_numbers(t.facilities, numbers, offsets);
     put_asked(file, t, asked, offsets);
-    StartAnswer::Started
+    Ok(())
 }
