@@ -21,9 +21,10 @@ use Rattle.lxt_format.specs.Columns.{paired, numbers_in, offsets_in, onto}
 use Rattle.lxt_format.specs.Walk.{numbered, with_offsets, offsets_of, start_offsets, pair_allowed, record_allowed, offsets_after}
 use Rattle.lxt_format.specs.Questions.{start_refusal, start_asked, start_record, carry_refusal, carry_pairs, carry_offsets, carry_asked, carry_record, carry_output}
 use Rattle.lxt_format.specs.declared.Pair.{Pair}
-use Rattle.lxt_format.specs.declared.StartAnswer.{StartAnswer}
-use Rattle.lxt_format.specs.declared.CarryAnswer.{CarryAnswer}
-use Rattle.lxt_format.specs.Answers.{start_says, carry_says}
+use Rattle.std.specs.Prelude.{Result}
+use Rattle.lxt_format.specs.declared.Handed.{Handed as HandedOut}
+use Rattle.lxt_format.specs.declared.refusal.Refusal.{Refusal}
+use Rattle.lxt_format.specs.Answers.{says, carry_says}
 use Rattle.lxt_chains.proofs.Bridge.{length_start}
 use Rattle.lxt_walk.specs.Calls.{Starts, Carries}
 use Rattle.lxt_walk.proofs.Handed.{length_after}
@@ -164,12 +165,12 @@ module _ (s : List ℕ) (ts : List Pair) (room : ℕ) (e : room ≡ min (length 
     together : (ns os : List ℕ) (l ts' : List Pair) → paired (take room ns) (take room os) ≡ l → ts' ≡ over ts (paired ns os) room → ts' ≡ l ++ drop room ts
     together ns os l ts' a b = b ∙ ap (λ (m : List Pair). m ++ drop room ts) (take_paired room ns os ∙ a)
 
-    pub started : (asked : List ℕ) (r : StartAnswer) (xs₂ zs₂ : List ℕ) (ts₃ : List Pair)
-        → (start_says r ≡ start_asked s asked room) × (paired (take room xs₂) (take room zs₂) ≡ start_record s asked (paired (take room xs) (take room zs)))
+    pub started : (asked : List ℕ) (r : Result (Unit {0}) Refusal) (xs₂ zs₂ : List ℕ) (ts₃ : List Pair)
+        → (says r ≡ start_asked s asked room) × (paired (take room xs₂) (take room zs₂) ≡ start_record s asked (paired (take room xs) (take room zs)))
         → ts₃ ≡ over ts (paired xs₂ zs₂) room → Starts s asked ts r ts₃
     started asked r xs₂ zs₂ ts₃ e₂ e₃ = (e₂.0 ∙ start_asked_lem asked, together xs₂ zs₂ _ ts₃ (e₂.1 ∙ ap (start_record s asked) apart) e₃ ∙ start_record_lem asked)
 
-    pub carried : (size : ℕ) (out out' : List ℕ) (r : CarryAnswer) (zs₂ : List ℕ) (ts₃ : List Pair)
+    pub carried : (size : ℕ) (out out' : List ℕ) (r : Result HandedOut Refusal) (zs₂ : List ℕ) (ts₃ : List Pair)
         → (carry_says r ≡ carry_asked s (paired (take room xs) (take room zs)) size (length out))
         × ((out' ≡ carry_output s (paired (take room xs) (take room zs)) size out) × (paired (take room xs) (take room zs₂) ≡ carry_record s (paired (take room xs) (take room zs)) size (length out)))
         → ts₃ ≡ over ts (paired xs zs₂) room → Carries s ts size out r out' ts₃
@@ -229,9 +230,9 @@ module _ (s ns os : List ℕ) (room : ℕ) (hn : room ≤ length ns) (ho : room 
         let whole : l ≡ offsets_in after = e ∙ onto_all (offsets_in after) (take room os) (long ∙ sym (length-take-le room os ho)) in
         rw whole (take_at (offsets_in after) (drop room os) room long)
 
-  pub start_in : (asked : List ℕ) (r : StartAnswer) (l m : List ℕ)
-      → start_says r ≡ start_asked s asked (length part) → l ≡ onto (numbers_in (start_record s asked part)) (take room ns) → m ≡ onto (offsets_in (start_record s asked part)) (take room os)
-      → (start_says r ≡ start_asked s asked room) × (paired (take room (l ++ drop room ns)) (take room (m ++ drop room os)) ≡ start_record s asked part)
+  pub start_in : (asked : List ℕ) (r : Result (Unit {0}) Refusal) (l m : List ℕ)
+      → says r ≡ start_asked s asked (length part) → l ≡ onto (numbers_in (start_record s asked part)) (take room ns) → m ≡ onto (offsets_in (start_record s asked part)) (take room os)
+      → (says r ≡ start_asked s asked room) × (paired (take room (l ++ drop room ns)) (take room (m ++ drop room os)) ≡ start_record s asked part)
   start_in asked r l m e₀ e₁ e₂ =
       let after = start_record s asked part in
       let same = length_started s asked part in (
@@ -280,7 +281,7 @@ module _ (s ns os : List ℕ) (room : ℕ) (hn : room ≤ length ns) (ho : room 
           let n = eqb-true (get_or part f none).number f p.0 in
           omega (arith, e, n)
 
-  pub carry_in : (size : ℕ) (out out' : List ℕ) (r : CarryAnswer) (m : List ℕ)
+  pub carry_in : (size : ℕ) (out out' : List ℕ) (r : Result HandedOut Refusal) (m : List ℕ)
       → carry_says r ≡ carry_asked s part size (length out) → m ≡ onto (offsets_in (carry_record s part size (length out))) (take room os) → out' ≡ carry_output s part size out
       → (carry_says r ≡ carry_asked s part size (length out)) × ((out' ≡ carry_output s part size out) × (paired (take room ns) (take room (m ++ drop room os)) ≡ carry_record s part size (length out)))
   carry_in size out out' r m e₀ e₁ e₂ =

@@ -4,13 +4,13 @@
 
 ghost use Rattle.std.specs.Prelude.{◌≡◌, ◌≤◌, min, length, take};
 ghost use Rattle.lxt_format.specs.Limits.{most_facilities};
-ghost use Rattle.lxt_format.specs.Answers.{start_says, carry_says};
+ghost use Rattle.lxt_format.specs.Answers.{says, carry_says};
 ghost use Rattle.lxt_format.specs.Columns.{paired, numbers_in, offsets_in};
 ghost use Rattle.lxt_format.specs.Questions.{start_asked, start_record, carry_asked, carry_record, carry_output};
 ghost use Rattle.lxt_walk.specs.Calls.{Starts, Carries};
 ghost use Rattle.lxt_record.specs.Rooms.{over};
 
-use lxt_format::{CarryAnswer, Pair, StartAnswer, Summary};
+use lxt_format::{Handed, Pair, Refusal, Summary};
 
 // Copies the first `n` pairs: their numbers into one slice, their offsets into another.
 fn unzip(pairs: &[Pair], n: usize, numbers: &mut [u32], offsets: &mut [u32])
@@ -46,9 +46,9 @@ fn start_within(
     room: usize,
     numbers: &mut [u32],
     offsets: &mut [u32],
-) -> StartAnswer
+) -> Result<(), Refusal>
     requires { (room ≤ length numbers.old) × (room ≤ length offsets.old) }
-    ensures { (start_says result ≡ start_asked file.now asked.now room) × (paired (take room numbers.new) (take room offsets.new) ≡ start_record file.now asked.now (paired (take room numbers.old) (take room offsets.old))) }
+    ensures { (says result ≡ start_asked file.now asked.now room) × (paired (take room numbers.new) (take room offsets.new) ≡ start_record file.now asked.now (paired (take room numbers.old) (take room offsets.old))) }
 {
     lxt_walk::start::start(file, asked, &mut numbers[..room], &mut offsets[..room])
 }
@@ -61,7 +61,7 @@ fn carry_within(
     offsets: &mut [u32],
     size: u32,
     output: &mut [u32],
-) -> CarryAnswer
+) -> Result<Handed, Refusal>
     requires { (room ≤ length numbers.now) × (room ≤ length offsets.old) }
     ensures { (carry_says result ≡ carry_asked file.now (paired (take room numbers.now) (take room offsets.old)) size (length output.old)) × ((output.new ≡ carry_output file.now (paired (take room numbers.now) (take room offsets.old)) size output.old) × (paired (take room numbers.now) (take room offsets.new) ≡ carry_record file.now (paired (take room numbers.now) (take room offsets.old)) size (length output.old))) }
 {
@@ -69,7 +69,7 @@ fn carry_within(
 }
 
 // Starts a walk over the facilities whose byte in `asked` is not 0.
-pub fn start(file: &[u8], asked: &[u8], pairs: &mut [Pair]) -> StartAnswer
+pub fn start(file: &[u8], asked: &[u8], pairs: &mut [Pair]) -> Result<(), Refusal>
     ensures { Starts file.now asked.now pairs.old result pairs.new }
 {
     let mut numbers = [0u32; ROOM];
@@ -82,7 +82,12 @@ pub fn start(file: &[u8], asked: &[u8], pairs: &mut [Pair]) -> StartAnswer
 }
 
 // Carries on with a walk by up to `size` changes, which go into the output buffer by number and offset.
-pub fn carry_on(file: &[u8], pairs: &mut [Pair], size: u32, output: &mut [u32]) -> CarryAnswer
+pub fn carry_on(
+    file: &[u8],
+    pairs: &mut [Pair],
+    size: u32,
+    output: &mut [u32],
+) -> Result<Handed, Refusal>
     ensures { Carries file.now pairs.old size output.old result output.new pairs.new }
 {
     let mut numbers = [0u32; ROOM];
