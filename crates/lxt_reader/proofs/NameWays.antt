@@ -6,9 +6,11 @@ use lib.ListN.{length, take, drop, replicate}
 use lib.Seq.{slice, take-append_seam}
 use lib.Dec.{leb, eqb, lit<}
 use native.Mathlib.Omega.{arith}
-use borrow.Author.Tests.{le-leb, lt-leb, leb-true, eqb-false}
-use Rattle.lxt_format.specs.Basics.{◌unless◌, Answer, given, refused, lent_after}
-use Rattle.lxt_format.specs.BasicsLaws.{on_test, stops, neither, kept, answer_given, answer_refused}
+use borrow.Author.Tests.{le-leb, lt-leb, leb-true}
+use Rattle.std.specs.Prelude.{Result, Ok, Err}
+use Rattle.std.specs.Result.{result_unwrap_or}
+use Rattle.lxt_format.specs.Basics.{◌unless◌, Answer, given, refused, answer, lent_after}
+use Rattle.lxt_format.specs.BasicsLaws.{on_test, neither, kept, answer_given, was_given, was_refused, passed_on, same_refusal}
 use Rattle.lxt_format.specs.Limits.{longest_name}
 use Rattle.lxt_format.specs.Bytes.{u32_at}
 use Rattle.lxt_format.specs.Names.{name_table, names_allowed, name_of}
@@ -16,81 +18,80 @@ use Rattle.lxt_format.specs.NamesLaws.{names_short}
 use Rattle.lxt_format.specs.Questions.{facility_refusal, name_refusal, name_asked, name_buffer, name_part, holding_name}
 use Rattle.lxt_values.specs.Names as N
 use Rattle.lxt_values.specs.Names.{name_at, name_is}
-use Rattle.lxt_reader.specs.Asking.{Answers, Named, length_in}
+use Rattle.lxt_format.specs.Sections.{section_of, end_of, facility_count}
+use Rattle.lxt_format.proofs.JudgeLaws.{passed, passed_located, accepted}
+use Rattle.lxt_format.specs.Answers.{says}
+use Rattle.lxt_format.specs.declared.refusal.Refusal.{Refusal}
+use Rattle.lxt_reader.specs.Asking.{asked_of, asked, name_place}
 use Rattle.lxt_reader.specs.declared.facilities.Asked.{Asked}
 use Rattle.lxt_reader.specs.declared.names.NamePlace.{NamePlace}
-use Rattle.lxt_reader.proofs.AskWays.{all_known, facility_below}
-
-abbrev nowhere : ℕ → NamePlace
-nowhere n = record { refusal = n; at = 0; end = 0; facilities = 0; memory = 0 }
+use Rattle.lxt_reader.proofs.AskWays.{nothing_refused, all_known, below_of, file_of}
 
 -- ---- the ways out of `find`
 
-module _ (s : List ℕ) (f room : ℕ) (a : Asked) (w : Answers s f a) where
-  pub name_refused : (a.refusal ≡ 0 → ⊥) → (r : NamePlace) → r ≡ nowhere a.refusal → Named s f room r
+pub name_refused : (s : List ℕ) (f room n : ℕ) → refused n ≡ asked s f → refused n ≡ answer (name_refusal s f room) (name_place s)
+unfolding name_refusal
+name_refused s f room n h = passed_on (facility_refusal s f) (21 unless leb longest_name room) n (asked_of s f) (name_place s) h
+
+module _ (s : List ℕ) (f room : ℕ) (a : Asked) (h : given a ≡ asked s f) where
+  pub no_room : room < longest_name → refused 21 ≡ answer (name_refusal s f room) (name_place s)
   unfolding name_refusal
-  name_refused n r e =
-      rw e record {
-        refusal = w.refusal ∙ sym (stops (facility_refusal s f) _ (λ z. n (w.refusal ∙ z)));
-        asks = λ z. absurd (n z);
-        name = λ z. absurd (n z);
-      }
+  no_room l = rw (nothing_refused s f a h, lt-leb longest_name room l)
 
-  module _ (h : a.refusal ≡ 0) where
-    facility_fine : facility_refusal s f ≡ 0
-    facility_fine = sym w.refusal ∙ h
+  pub head_there : (a.tables.names + 4) + 4 ≤ length s
+  head_there = let k = all_known s f a h in omega (arith, k.names_high, k.end_high)
 
-    pub no_room : room < longest_name → (r : NamePlace) → r ≡ nowhere 21 → Named s f room r
-    unfolding name_refusal
-    no_room l r e =
-        rw e record {
-          refusal = sym (rw (facility_fine, lt-leb longest_name room l));
-          asks = λ z. absurd (eqb-false 21 0 refl z);
-          name = λ z. absurd (eqb-false 21 0 refl z);
-        }
-
-    pub head_there : (a.tables.names + 4) + 4 ≤ length s
-    head_there = let k = all_known s f a w h in omega (arith, k.names_high, k.end_high)
-
-    pub name_found : longest_name ≤ room → (m : ℕ) → m ≡ u32_at s (a.tables.names + 4)
-        → Named s f room (record { refusal = 0; at = a.tables.names + 8; end = a.tables.end; facilities = a.tables.facilities; memory = m })
-    unfolding name_refusal
-    name_found l m em =
-        let k = all_known s f a w h in
-        let below = facility_below s f a w h in
-        record {
-          refusal = sym (rw (facility_fine, le-leb longest_name room l));
-          asks = λ z. record {
-            start = k.names_high;
-            inside = omega (arith, k.end_high);
-            allowed = (unfold names_allowed name_table in rw (em, k.names, k.end, k.facilities) k.passed.names);
-            number = rw k.facilities below;
-          };
-          name = λ z. rw (k.names, k.end, k.facilities) (name_is s f);
-        }
+  pub name_found : longest_name ≤ room → (m : ℕ) → m ≡ u32_at s (a.tables.names + 4)
+      → given (record { at = a.tables.names + 8; end = a.tables.end; facilities = a.tables.facilities; memory = m }) ≡ answer (name_refusal s f room) (name_place s)
+  unfolding name_refusal name_place
+  name_found l m em =
+      let k = all_known s f a h in
+      rw (nothing_refused s f a h, le-leb longest_name room l, em, k.names, k.end, k.facilities)
 
 -- ---- the ways out of the questions
 
-module _ (s : List ℕ) (f : ℕ) (buffer : List ℕ) (p : NamePlace) (w : Named s f (length buffer) p) where
-  pub length_refused : (p.refusal ≡ 0 → ⊥) → (refused p.refusal ≡ name_asked s f (length buffer)) × (buffer ≡ name_buffer s f buffer)
+module _ (s : List ℕ) (f : ℕ) (buffer : List ℕ) where
+  pub length_refused : (n : ℕ) → refused n ≡ answer (name_refusal s f (length buffer)) (name_place s)
+      → (refused n ≡ name_asked s f (length buffer)) × (buffer ≡ name_buffer s f buffer)
   unfolding name_asked name_buffer
-  length_refused n =
-      let m : name_refusal s f (length buffer) ≡ 0 → ⊥ = λ z. n (w.refusal ∙ z) in
-      (rw w.refusal (sym (answer_refused (name_refusal s f (length buffer)) _ m)), sym (kept_as_was m))
+  length_refused n h =
+      let w = was_refused (name_refusal s f (length buffer)) n (name_place s) h in
+      (same_refusal (name_refusal s f (length buffer)) (name_refusal s f (length buffer)) n (name_place s) _ refl h, sym (kept_as_was w.1))
     where
       kept_as_was : (name_refusal s f (length buffer) ≡ 0 → ⊥) → lent_after (name_refusal s f (length buffer)) (holding_name (name_of s f) buffer) buffer ≡ buffer
       kept_as_was m = simp (borrow.Author.Tests.ne_eqb _ _ m)
 
-  module _ (h : p.refusal ≡ 0) where
+  module _ (p : NamePlace) (h : given p ≡ answer (name_refusal s f (length buffer)) (name_place s)) where
     fine : name_refusal s f (length buffer) ≡ 0
-    fine = sym w.refusal ∙ h
+    fine = (was_given (name_refusal s f (length buffer)) (name_place s) p h).0
+
+    place_is : p ≡ name_place s
+    place_is = (was_given (name_refusal s f (length buffer)) (name_place s) p h).1
+
+    parts : (facility_refusal s f ≡ 0) × ((21 unless leb longest_name (length buffer)) ≡ 0)
+    unfolding name_refusal
+    parts = neither (facility_refusal s f) (21 unless leb longest_name (length buffer)) fine
 
     room_enough : longest_name ≤ length buffer
-    unfolding name_refusal
-    room_enough = leb-true _ _ (kept 21 _ (lit< tt) (neither (facility_refusal s f) (21 unless leb longest_name (length buffer)) fine).1)
+    room_enough = leb-true _ _ (kept 21 _ (lit< tt) parts.1)
 
     pub expand_asks : N.Named s p.at p.end p.facilities p.memory f × (longest_name ≤ length buffer)
-    expand_asks = (w.asks h, room_enough)
+    unfolding name_place
+    expand_asks =
+        let k = passed s (accepted s (file_of s f parts.0)).tables in
+        let l = passed_located s k in
+        let named : N.Named s (section_of s 0x03 + 8) (end_of s) (facility_count s) (u32_at s (section_of s 0x03 + 4)) f =
+        record {
+          start = l.names_high;
+          inside = omega (arith, l.end_high);
+          allowed = (unfold names_allowed name_table in k.names);
+          number = below_of s f parts.0;
+        } in
+        (rw place_is named, room_enough)
+
+    name_there : name_at s p.at p.end p.facilities f ≡ name_of s f
+    unfolding name_place
+    name_there = rw place_is (name_is s f)
 
     pub length_small : (n : ℕ) → n ≡ length (name_at s p.at p.end p.facilities f) → n ≤ longest_name
     unfolding name_at
@@ -100,7 +101,7 @@ module _ (s : List ℕ) (f : ℕ) (buffer : List ℕ) (p : NamePlace) (w : Named
         → (given n ≡ name_asked s f (length buffer)) × (after ≡ name_buffer s f buffer)
     unfolding name_asked name_buffer
     length_given n after en ea =
-        (sym (answer_given (name_refusal s f (length buffer)) _ fine ∙ rw (en, w.name h)), ea ∙ rw (w.name h, fine))
+        (sym (answer_given (name_refusal s f (length buffer)) _ fine ∙ rw (en, name_there)), ea ∙ rw (name_there, fine))
 
 -- ---- the part
 
@@ -109,16 +110,29 @@ front : (name d : List ℕ) → take (length name) (holding_name name d) ≡ nam
 unfolding holding_name
 front name d = take-append_seam name (replicate (longest_name - length name) 0 ++ drop longest_name d)
 
-module _ (s : List ℕ) (f : ℕ) (buffer : List ℕ) (a : Answer ℕ) (is : a ≡ name_asked s f (length buffer)) where
+-- the length that is answered, 0 where the question is refused
+length_in : Answer ℕ → ℕ
+length_in (given k) = k
+length_in (refused n) = 0
+
+module _ (s : List ℕ) (f : ℕ) (buffer : List ℕ) (r : Result ℕ Refusal) (is : says r ≡ name_asked s f (length buffer)) (k : ℕ) (ek : k ≡ result_unwrap_or r 0) where
+  length_is : k ≡ length_in (name_asked s f (length buffer))
+  unfolding length_in
+  length_is = rw (← is) (by_cases r ek)
+    where
+      by_cases : (q : Result ℕ Refusal) → k ≡ result_unwrap_or q 0 → k ≡ length_in (says q)
+      by_cases (Ok n) e = e
+      by_cases (Err d) e = e
+
   -- the first bytes of the buffer that asking for the length leaves, as many as it answered, are the name; none where it refused
-  pub part_is : (after : List ℕ) (k : ℕ) → k ≡ length_in a → after ≡ name_buffer s f buffer → take k after ≡ name_part s f (length buffer)
-  unfolding name_asked name_buffer name_part
-  part_is after k ek ea =
-      on_test (eqb (name_refusal s f (length buffer)) 0) (λ e. rw (ek, ea, is, e) (front (name_of s f) buffer)) (λ e. rw (ek, ea, is, e))
+  pub part_is : (after : List ℕ) → after ≡ name_buffer s f buffer → take k after ≡ name_part s f (length buffer)
+  unfolding name_asked name_buffer name_part length_in
+  part_is after ea =
+      on_test (eqb (name_refusal s f (length buffer)) 0) (λ e. rw (length_is, ea, e) (front (name_of s f) buffer)) (λ e. rw (length_is, ea, e))
 
   -- it has the length that was answered
-  pub part_length : (after : List ℕ) (k : ℕ) → k ≡ length_in a → after ≡ name_buffer s f buffer → k ≡ length (take k after)
-  unfolding name_asked name_part
-  part_length after k ek ea =
-      let same = part_is after k ek ea in
-      on_test (eqb (name_refusal s f (length buffer)) 0) (λ e. ek ∙ rw (same, is, e)) (λ e. ek ∙ rw (same, is, e))
+  pub part_length : (after : List ℕ) → after ≡ name_buffer s f buffer → k ≡ length (take k after)
+  unfolding name_asked name_part length_in
+  part_length after ea =
+      let same = part_is after ea in
+      on_test (eqb (name_refusal s f (length buffer)) 0) (λ e. length_is ∙ rw (same, e)) (λ e. length_is ∙ rw (same, e))

@@ -1,9 +1,9 @@
 -- A law for each way out of the questions on values.
 use Prim.Native.Nat.{ℕ, ◌≤◌, ◌<◌}
 use mathlib.Core.Path.{◌≡◌, refl, sym, ◌∙◌}
-use mathlib.Core.Bool.{Bool}
+use mathlib.Core.Bool.{Bool, false}
 use mathlib.Core.List.{List}
-use lib.IntN.{ℤ}
+use lib.IntN.{ℤ, pos}
 use lib.Signed.{mag}
 use mir.Syntax.{w64}
 use mir.Val.{to_z, of_z}
@@ -12,8 +12,8 @@ use lib.ListN.{length}
 use lib.Dec.{ltb, eqb, lit<}
 use native.Mathlib.Omega.{arith}
 use borrow.Author.Tests.{ne_eqb, le-leb, lt-leb, ltb-true, eqb-false}
-use Rattle.lxt_format.specs.Basics.{◌unless◌, Answer, given, any}
-use Rattle.lxt_format.specs.BasicsLaws.{neither, kept, stops}
+use Rattle.lxt_format.specs.Basics.{given, refused, answer}
+use Rattle.lxt_format.specs.BasicsLaws.{stops, was_refused}
 use Rattle.lxt_format.specs.Sections.{facility_count}
 use Rattle.lxt_format.specs.Geometry.{root_of, facts_of}
 use Rattle.lxt_format.specs.Times.{time_of}
@@ -21,12 +21,10 @@ use Rattle.lxt_format.specs.BiasedTimes.{bias}
 use Rattle.lxt_format.specs.Changes.{signal, chain_of, clean_at}
 use Rattle.lxt_format.specs.Changes.{Sound}
 use Rattle.lxt_format.specs.Values.{Content, content_by, content_of, latest_at, change_at, visited_in, visited_at, content_at}
-use Rattle.lxt_format.specs.Answers.{Shown, shown, Timed, timed_says, LookedUp, lookup_says}
+use Rattle.lxt_format.specs.Answers.{refusal_number, Shown, shown, Timed, timed_says, LookedUp, lookup_says}
 use Rattle.lxt_format.specs.Questions.{holding_bits, facility_refusal, change_refusal, reading_refusal, change_asked, change_buffer, value_refusal, value_asked, value_buffer, chain_asked}
 use Rattle.lxt_format.specs.Judge.{signal_by, signal_of, file_refusal, fault_from}
 use Rattle.lxt_format.proofs.VisitedLaws.{visited_most}
-use Rattle.lxt_format.specs.declared.TimedValue.{TimedValue}
-use Rattle.lxt_format.specs.declared.Lookup.{Lookup}
 use Rattle.lxt_values.specs.Reals.{order_places}
 use Rattle.lxt_values.specs.Times as Ti
 use Rattle.lxt_values.specs.Times.{Readable}
@@ -37,21 +35,21 @@ use Rattle.lxt_tables.proofs.TablesLaws.{Known, tables_known, entry_allowed, roo
 use Rattle.lxt_changes.specs.Padding.{Inside}
 use Rattle.lxt_changes.proofs.PaddingLaws.{sound_inside}
 use Rattle.lxt_format.specs.Limits.{widest_facility}
-use Rattle.lxt_reader.specs.Changing.{Followed, Chained, Looked}
+use Rattle.std.specs.Prelude.{Err}
+use Rattle.lxt_format.specs.declared.refusal.Refusal.{Refusal}
+use Rattle.lxt_format.specs.declared.refusal.Refusal.TheVariants.{Room}
+use Rattle.lxt_reader.specs.Changing.{chain_at}
+use Rattle.lxt_reader.proofs.AskWays.{below_of, file_of}
+use Rattle.lxt_reader.proofs.ChangeWays.{Chained, Looked}
 use Rattle.lxt_reader.specs.declared.changes.Chain.{Chain}
 use Rattle.lxt_values.specs.Value.{content_from, Readies, Shows}
 use Rattle.lxt_values.proofs.StartLaws.{content_at_lem}
-use Rattle.lxt_reader.specs.Reading.{not_read, not_found}
 
 -- ---- a chain that was asked about
 
-pub below_of : (s : List ℕ) (f : ℕ) → facility_refusal s f ≡ 0 → f < facility_count s
-unfolding facility_refusal
-below_of s f h = ltb-true _ _ (kept 18 _ (lit< tt) (neither (file_refusal s) (18 unless ltb f (facility_count s)) h).1)
-
-module _ (s : List ℕ) (f : ℕ) (c : Chain) (e : c.tables ≡ tables_of s) (fine : facility_refusal s f ≡ 0) (l : Followed s f c) where
+module _ (s : List ℕ) (f : ℕ) (c : Chain) (l : Chained s f c) where
   pub tables_are : Known s c.tables
-  tables_are = tables_known s c.tables e l.accepted
+  tables_are = tables_known s c.tables l.tables (file_of s f l.fine)
 
   pub times_there : Ti.Times s c.tables.times c.tables.time_count c.tables.wide_times
   times_there =
@@ -69,7 +67,7 @@ module _ (s : List ℕ) (f : ℕ) (c : Chain) (e : c.tables ≡ tables_of s) (fi
   unfolding facts_of
   readies o room sound enough =
       let k = tables_are in
-      let below = below_of s f fine in
+      let below = below_of s f l.fine in
       let r = root_in s k.passed f below in
       let p = root_plain s k.passed f below in
       record {
@@ -93,8 +91,8 @@ module _ (s : List ℕ) (f : ℕ) (c : Chain) (e : c.tables ≡ tables_of s) (fi
   unfolding facts_of
   padding_asks o sound =
       let k = tables_are in
-      let r = root_in s k.passed f (below_of s f fine) in
-      let p = root_plain s k.passed f (below_of s f fine) in
+      let r = root_in s k.passed f (below_of s f l.fine) in
+      let p = root_plain s k.passed f (below_of s f l.fine) in
       (rw l.facts (width_most s (root_of s f) (entry_allowed s k.passed (root_of s f) r) p), sound_inside s _ _ c.facts.kind c.facts.width o (omega (arith, k.end_high, k.end)) sound)
 
   pub clean_is : (o : ℕ) → clean_at s (signal 0 0 c.facts.kind c.facts.width) o ≡ clean_at s (signal_of s (root_of s f)) o
@@ -103,128 +101,111 @@ module _ (s : List ℕ) (f : ℕ) (c : Chain) (e : c.tables ≡ tables_of s) (fi
 
 -- ---- a change's time and value
 
-module _ (s : List ℕ) (f o : ℕ) (buffer : List ℕ) (c : Chain) (w : Looked s f o c) where
+module _ (s : List ℕ) (f o : ℕ) (buffer : List ℕ) where
   says : (refusal : ℕ) → reading_refusal s f o (length buffer) ≡ refusal → (refusal ≡ 0 → ⊥)
-      → (not_read refusal ≡ change_asked s f o (length buffer)) × (buffer ≡ change_buffer s f o buffer)
+      → (record { time = pos 0; value = refused refusal; clean = false } ≡ change_asked s f o (length buffer)) × (buffer ≡ change_buffer s f o buffer)
   unfolding change_asked change_buffer
   says refusal e n = (sym (rw e (simp (ne_eqb refusal 0 n))), sym (rw e (simp (ne_eqb refusal 0 n))))
 
-  pub change_refused : (c.refusal ≡ 0 → ⊥) → (r : TimedValue) → timed_says r ≡ not_read c.refusal
-      → (timed_says r ≡ change_asked s f o (length buffer)) × (buffer ≡ change_buffer s f o buffer)
+  pub change_refused : (e : Refusal) → refused (refusal_number e) ≡ answer (change_refusal s f o) (chain_at s f)
+      → (timed_says (Err e) ≡ change_asked s f o (length buffer)) × (buffer ≡ change_buffer s f o buffer)
   unfolding reading_refusal
-  change_refused n r q =
-      let a = says c.refusal (rw (← w.refusal) (stops c.refusal _ n)) n in
-      (q ∙ a.0, a.1)
+  change_refused e h =
+      let w = was_refused (change_refusal s f o) (refusal_number e) (chain_at s f) h in
+      says (refusal_number e) (stops (change_refusal s f o) _ w.1 ∙ sym w.0) (λ z. w.1 (sym w.0 ∙ z))
 
-  module _ (h : c.refusal ≡ 0) where
-    change_fine : change_refusal s f o ≡ 0
-    change_fine = sym w.refusal ∙ h
-
-    pub facility_fine : facility_refusal s f ≡ 0
-    unfolding change_refusal
-    facility_fine = (neither (facility_refusal s f) (19 unless any (eqb o) (chain_asked s f)) change_fine).0
-
-    pub change_short : length buffer < c.facts.width → (r : TimedValue) → timed_says r ≡ not_read 21
-        → (timed_says r ≡ change_asked s f o (length buffer)) × (buffer ≡ change_buffer s f o buffer)
+  module _ (c : Chain) (w : Looked s f o c) where
+    pub change_short : length buffer < c.facts.width → (timed_says (Err Room) ≡ change_asked s f o (length buffer)) × (buffer ≡ change_buffer s f o buffer)
     unfolding reading_refusal
-    change_short short r q =
-        let g : length buffer < (facts_of s f).width = rw (w.followed h).facts at short in
-        let a = says 21 (rw (change_fine, lt-leb _ _ g)) (eqb-false 21 0 refl) in
-        (q ∙ a.0, a.1)
+    change_short short =
+        let g : length buffer < (facts_of s f).width = rw w.chain.facts at short in
+        says 21 (rw (w.fine, lt-leb _ _ g)) (eqb-false 21 0 refl)
 
-    pub change_given : c.facts.width ≤ length buffer → (time : ℤ) → mag time < bias → time ≡ time_of s o → (v : Answer Shown) (after : List ℕ)
-        → v ≡ given (shown (content_by s c.facts.kind c.facts.width o)) → after ≡ holding_bits (content_by s c.facts.kind c.facts.width o) buffer
+    pub change_given : c.facts.width ≤ length buffer → (time : ℤ) → mag time < bias → time ≡ time_of s o → (v : Shown) (after : List ℕ)
+        → v ≡ shown (content_by s c.facts.kind c.facts.width o) → after ≡ holding_bits (content_by s c.facts.kind c.facts.width o) buffer
         → (z : Bool) → z ≡ clean_at s (signal 0 0 c.facts.kind c.facts.width) o
-        → (◌≡◌ {A = Timed} (record { time = to_z w64 (of_z w64 time); value = v; clean = z }) (change_asked s f o (length buffer))) × (after ≡ change_buffer s f o buffer)
+        → (◌≡◌ {A = Timed} (record { time = to_z w64 (of_z w64 time); value = given v; clean = z }) (change_asked s f o (length buffer))) × (after ≡ change_buffer s f o buffer)
     unfolding reading_refusal change_asked change_buffer
     change_given room time ft et v after ev ea z ez =
-        let g : (facts_of s f).width ≤ length buffer = rw (w.followed h).facts at room in
-        let i = content_is s f c w.tables facility_fine (w.followed h) o in
-        let j = ez ∙ clean_is s f c w.tables facility_fine (w.followed h) o in
-        (rw (to_z-of_z w64 time (record { sfits = ft }), change_fine, le-leb _ _ g, et, ev, i, j), ea ∙ rw (change_fine, le-leb _ _ g, i))
+        let g : (facts_of s f).width ≤ length buffer = rw w.chain.facts at room in
+        let i = content_is s f c w.chain o in
+        let j = ez ∙ clean_is s f c w.chain o in
+        (rw (to_z-of_z w64 time (record { sfits = ft }), w.fine, le-leb _ _ g, et, ev, i, j), ea ∙ rw (w.fine, le-leb _ _ g, i))
 
 -- ---- the latest change at a time
 
-module _ (s : List ℕ) (f : ℕ) (t : ℤ) (c : Chain) (w : Chained s f c) (h : c.refusal ≡ 0) where
-  pub asked_fine : facility_refusal s f ≡ 0
-  asked_fine = sym w.refusal ∙ h
-
+module _ (s : List ℕ) (f : ℕ) (t : ℤ) (c : Chain) (w : Chained s f c) where
   pub latest_asks : Ti.Times s c.tables.times c.tables.time_count c.tables.wide_times × Readable s (chain_of s c.start)
-  latest_asks = (times_there s f c w.tables asked_fine (w.followed h), chain_there s f c w.tables asked_fine (w.followed h))
+  latest_asks = (times_there s f c w, chain_there s f c w)
 
   module _ (o visited : ℕ) (found : (o ≡ latest_at s t (chain_of s c.start)) × (visited ≡ visited_in s t (chain_of s c.start))) where
     pub change_is : o ≡ change_at s (root_of s f) t
     unfolding change_at
-    change_is = found.0 ∙ rw (w.followed h).start
+    change_is = found.0 ∙ rw w.start
 
     pub visited_is : visited ≡ visited_at s (root_of s f) t
     unfolding visited_at
-    visited_is = found.1 ∙ rw (w.followed h).start
+    visited_is = found.1 ∙ rw w.start
 
     -- at most (T - C) / 2 fits 32 bits
     pub visited_fits : visited < 4294967296
     visited_fits =
-        let k = tables_are s f c w.tables asked_fine (w.followed h) in
-        omega (arith, visited_is, visited_most s f t asked_fine, k.end_high, k.end, k.long)
+        let k = tables_are s f c w in
+        omega (arith, visited_is, visited_most s f t w.fine, k.end_high, k.end, k.long)
 
     pub latest_fine : (o ≡ 0 → ⊥) → Sound s (signal_by s c.facts) o
     unfolding fault_from facts_of
     latest_fine some =
-        rw (found.0, (w.followed h).facts)
-        (latest_change_sound s _ c.start (w.followed h).fault t (λ z. some (found.0 ∙ z)))
+        rw (found.0, w.facts)
+        (latest_change_sound s _ c.start w.fault t (λ z. some (found.0 ∙ z)))
 
 -- ---- the value at a time
 
-module _ (s : List ℕ) (f : ℕ) (t : ℤ) (buffer : List ℕ) (c : Chain) (w : Chained s f c) where
+module _ (s : List ℕ) (f : ℕ) (t : ℤ) (buffer : List ℕ) where
   tells : (refusal : ℕ) → value_refusal s f (length buffer) ≡ refusal → (refusal ≡ 0 → ⊥)
-      → (not_found refusal ≡ value_asked s f t (length buffer)) × (buffer ≡ value_buffer s f t buffer)
+      → (record { value = refused refusal; visited = 0 } ≡ value_asked s f t (length buffer)) × (buffer ≡ value_buffer s f t buffer)
   unfolding value_asked value_buffer
   tells refusal e n = (sym (rw e (simp (ne_eqb refusal 0 n))), sym (rw e (simp (ne_eqb refusal 0 n))))
 
-  pub value_refused : (c.refusal ≡ 0 → ⊥) → (r : Lookup) → lookup_says r ≡ not_found c.refusal
-      → (lookup_says r ≡ value_asked s f t (length buffer)) × (buffer ≡ value_buffer s f t buffer)
+  pub value_refused : (e : Refusal) → refused (refusal_number e) ≡ answer (facility_refusal s f) (chain_at s f)
+      → (lookup_says (Err e) ≡ value_asked s f t (length buffer)) × (buffer ≡ value_buffer s f t buffer)
   unfolding value_refusal
-  value_refused n r q =
-      let a = tells c.refusal (rw (← w.refusal) (stops c.refusal _ n)) n in
-      (q ∙ a.0, a.1)
+  value_refused e h =
+      let w = was_refused (facility_refusal s f) (refusal_number e) (chain_at s f) h in
+      tells (refusal_number e) (stops (facility_refusal s f) _ w.1 ∙ sym w.0) (λ z. w.1 (sym w.0 ∙ z))
 
-  module _ (h : c.refusal ≡ 0) where
-    fine : facility_refusal s f ≡ 0
-    fine = asked_fine s f t c w h
-
-    pub value_short : length buffer < c.facts.width → (r : Lookup) → lookup_says r ≡ not_found 21
-        → (lookup_says r ≡ value_asked s f t (length buffer)) × (buffer ≡ value_buffer s f t buffer)
+  module _ (c : Chain) (w : Chained s f c) where
+    pub value_short : length buffer < c.facts.width → (lookup_says (Err Room) ≡ value_asked s f t (length buffer)) × (buffer ≡ value_buffer s f t buffer)
     unfolding value_refusal
-    value_short short r q =
-        let g : length buffer < (facts_of s f).width = rw (w.followed h).facts at short in
-        let a = tells 21 (rw (fine, lt-leb _ _ g)) (eqb-false 21 0 refl) in
-        (q ∙ a.0, a.1)
+    value_short short =
+        let g : length buffer < (facts_of s f).width = rw w.facts at short in
+        tells 21 (rw (w.fine, lt-leb _ _ g)) (eqb-false 21 0 refl)
 
     module _ (room : c.facts.width ≤ length buffer) (o visited : ℕ) (found : (o ≡ latest_at s t (chain_of s c.start)) × (visited ≡ visited_in s t (chain_of s c.start))) where
       at_change : o ≡ change_at s (root_of s f) t
-      at_change = change_is s f t c w h o visited found
+      at_change = change_is s f t c w o visited found
 
-      value_is : (content : Content) → content ≡ content_at s (root_of s f) t → (v : Answer Shown) (after : List ℕ)
-          → v ≡ given (shown content) → after ≡ holding_bits content buffer
-          → (◌≡◌ {A = LookedUp} (record { value = v; visited = visited }) (value_asked s f t (length buffer))) × (after ≡ value_buffer s f t buffer)
+      value_is : (content : Content) → content ≡ content_at s (root_of s f) t → (v : Shown) (after : List ℕ)
+          → v ≡ shown content → after ≡ holding_bits content buffer
+          → (◌≡◌ {A = LookedUp} (record { value = given v; visited = visited }) (value_asked s f t (length buffer))) × (after ≡ value_buffer s f t buffer)
       unfolding value_refusal value_asked value_buffer
       value_is content ec v after ev ea =
-          let g : (facts_of s f).width ≤ length buffer = rw (w.followed h).facts at room in
-          (rw (fine, le-leb _ _ g, ev, ec, visited_is s f t c w h o visited found), ea ∙ rw (fine, le-leb _ _ g, ec))
+          let g : (facts_of s f).width ≤ length buffer = rw w.facts at room in
+          (rw (w.fine, le-leb _ _ g, ev, ec, visited_is s f t c w o visited found), ea ∙ rw (w.fine, le-leb _ _ g, ec))
 
       pub value_shows : Shows s c.tables.end c.tables.order c.facts.kind c.facts.width o (length buffer)
       value_shows =
           record {
             enough = room;
-            ready = λ some. readies s f c w.tables fine (w.followed h) o (length buffer) (latest_fine s f t c w h o visited found some) room;
+            ready = λ some. readies s f c w o (length buffer) (latest_fine s f t c w o visited found some) room;
           }
 
-      pub value_given : (v : Answer Shown) (after : List ℕ) → v ≡ given (shown (content_from s c.tables.initial c.facts.kind c.facts.width o))
+      pub value_given : (v : Shown) (after : List ℕ) → v ≡ shown (content_from s c.tables.initial c.facts.kind c.facts.width o)
           → after ≡ holding_bits (content_from s c.tables.initial c.facts.kind c.facts.width o) buffer
-          → (◌≡◌ {A = LookedUp} (record { value = v; visited = visited }) (value_asked s f t (length buffer))) × (after ≡ value_buffer s f t buffer)
+          → (◌≡◌ {A = LookedUp} (record { value = given v; visited = visited }) (value_asked s f t (length buffer))) × (after ≡ value_buffer s f t buffer)
       unfolding facts_of
       value_given v after ev ea =
-          let k = tables_are s f c w.tables fine (w.followed h) in
+          let k = tables_are s f c w in
           let is : content_from s c.tables.initial c.facts.kind c.facts.width o ≡ content_at s (root_of s f) t =
-          rw (k.initial, (w.followed h).facts) (content_at_lem s (root_of s f) t o at_change) in
+          rw (k.initial, w.facts) (content_at_lem s (root_of s f) t o at_change) in
           value_is (content_from s c.tables.initial c.facts.kind c.facts.width o) is v after ev ea

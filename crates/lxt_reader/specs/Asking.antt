@@ -1,28 +1,22 @@
--- What is known of a facility that was asked about.
-use Rattle.std.specs.Prelude.{ℕ, ◌≡◌, List}
-use Rattle.lxt_format.specs.Basics.{Answer, given, refused}
+-- What is known of a facility that was asked about, in an accepted file.
+use Rattle.std.specs.Prelude.{ℕ, ◌+◌, List}
+use Rattle.lxt_format.specs.Basics.{Answer, answer}
+use Rattle.lxt_format.specs.Bytes.{u32_at}
+use Rattle.lxt_format.specs.Sections.{section_of, end_of, facility_count}
 use Rattle.lxt_format.specs.Geometry.{root_of}
-use Rattle.lxt_format.specs.Names.{name_of}
-use Rattle.lxt_format.specs.Questions.{facility_refusal, name_refusal}
+use Rattle.lxt_format.specs.Questions.{facility_refusal}
 use Rattle.lxt_tables.specs.Stage.{tables_of}
-use Rattle.lxt_values.specs.Names as N
-use Rattle.lxt_values.specs.Names.{name_at}
 use Rattle.lxt_reader.specs.declared.facilities.Asked.{Asked}
 use Rattle.lxt_reader.specs.declared.names.NamePlace.{NamePlace}
 
--- the refusal of a question on the facility f, its root where there is none, and the tables
-pub record Answers (s : List ℕ) (f : ℕ) (a : Asked) : Type 0 where
-  pub refusal : a.refusal ≡ facility_refusal s f
-  pub root : a.refusal ≡ 0 → a.root ≡ root_of s f
-  pub tables : a.tables ≡ tables_of s
+-- its root, and the tables
+unfoldable pub asked_of : List ℕ → ℕ → Asked
+asked_of s f = record { root = root_of s f; tables = tables_of s }
 
--- the length of a name that is answered, 0 where the question is refused
-abbrev pub length_in : Answer ℕ → ℕ
-length_in (given k) = k
-length_in (refused k) = 0
+-- that, or the refusal of a question on it
+abbrev pub asked : List ℕ → ℕ → Answer Asked
+asked s f = answer (facility_refusal s f) (asked_of s f)
 
--- the refusal of a question on the name of the facility f with that room, or where its name stands
-pub record Named (s : List ℕ) (f room : ℕ) (p : NamePlace) : Type 0 where
-  pub refusal : p.refusal ≡ name_refusal s f room
-  pub asks : p.refusal ≡ 0 → N.Named s p.at p.end p.facilities p.memory f
-  pub name : p.refusal ≡ 0 → name_at s p.at p.end p.facilities f ≡ name_of s f
+-- where the names stand: after n and M
+unfoldable pub name_place : List ℕ → NamePlace
+name_place s = record { at = section_of s 0x03 + 8; end = end_of s; facilities = facility_count s; memory = u32_at s (section_of s 0x03 + 4) }

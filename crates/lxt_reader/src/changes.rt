@@ -1,57 +1,38 @@
 // Questions on the changes of a facility.
 ghost use Rattle.std.specs.Prelude.{◌≡◌, eqb};
-ghost use Rattle.lxt_format.specs.Basics.{any};
+ghost use Rattle.lxt_format.specs.Basics.{answer, any};
 ghost use Rattle.lxt_format.specs.Changes.{chain_of};
-ghost use Rattle.lxt_format.specs.Answers.{number_says};
-ghost use Rattle.lxt_format.specs.Questions.{before_asked};
+ghost use Rattle.lxt_format.specs.Answers.{says};
+ghost use Rattle.lxt_format.specs.Questions.{facility_refusal, change_refusal, before_asked};
 ghost use Rattle.lxt_values.specs.Times.{Readable};
-ghost use Rattle.lxt_reader.specs.Changing.{Chained, Looked};
+ghost use Rattle.lxt_reader.specs.Changing.{chain_at};
 
 use crate::facilities::ask;
 use lxt_changes::delta;
-use lxt_format::{Facts, Kind, NumberAnswer};
+use lxt_format::{Facts, Refusal};
 use lxt_tables::{Tables, geometry};
 
-// A question on a chain: the refusal, or 0 with the facts of the root and where its chain starts; and
-// the tables of the file.
+// Where the chain of a facility's root starts, and the root's facts; and the tables of the file.
 #[derive(Clone, Copy)]
 pub struct Chain {
-    pub refusal: u8,
     pub start: u32,
     pub facts: Facts,
     pub tables: Tables,
 }
 
-fn no_facts() -> Facts {
-    Facts {
-        width: 0,
-        msb: 0,
-        lsb: 0,
-        kind: Kind::Bits,
-    }
-}
-
 // Judges the file, then looks for the facility and its root's chain.
-pub fn find_chain(file: &[u8], facility: u32) -> Chain
-    ensures { Chained file.now facility result }
+pub fn find_chain(file: &[u8], facility: u32) -> Result<Chain, Refusal>
+    ensures { says result ≡ answer (facility_refusal file.now facility) (chain_at file.now facility) }
 {
-    let a = ask(file, facility);
+    let a = ask(file, facility)?;
     let t = a.tables;
-    if a.refusal != 0 {
-        return Chain {
-            refusal: a.refusal,
-            start: 0,
-            facts: no_facts(),
-            tables: t,
-        };
-    }
     let facts = geometry::own_facts(file, t.geometry as usize, t.facilities, a.root);
-    Chain {
-        refusal: 0,
-        start: geometry::sync_of(file, t.sync as usize, t.facilities, a.root),
-        facts: facts,
+    let start = geometry::sync_of(file, t.sync as usize, t.facilities, a.root);
+    Ok(Chain {
+        start,
+        facts,
         tables: t,
-    }
+    })
 }
 
 // The offset `o` is on the chain that starts at `start`.
@@ -69,34 +50,21 @@ fn on_chain(file: &[u8], start: usize, o: usize) -> bool
     false
 }
 
-// A question on a change: the chain, with the refusal of an offset that is not on it.
-pub fn find_change(file: &[u8], facility: u32, offset: u32) -> Chain
-    ensures { Looked file.now facility offset result }
+// The same for a question on a change, which is to be on the chain.
+pub fn find_change(file: &[u8], facility: u32, offset: u32) -> Result<Chain, Refusal>
+    ensures { says result ≡ answer (change_refusal file.now facility offset) (chain_at file.now facility) }
 {
-    let c = find_chain(file, facility);
-    if c.refusal != 0 {
-        return c;
-    }
+    let c = find_chain(file, facility)?;
     if !on_chain(file, c.start as usize, offset as usize) {
-        let facts = c.facts;
-        let t = c.tables;
-        return Chain {
-            refusal: 19,
-            start: c.start,
-            facts: facts,
-            tables: t,
-        };
+        return Err(Refusal::Offset);
     }
-    c
+    Ok(c)
 }
 
 // The change before a given change, or 0 where there is none.
-pub fn before(file: &[u8], facility: u32, offset: u32) -> NumberAnswer
-    ensures { number_says result ≡ before_asked file.now facility offset }
+pub fn before(file: &[u8], facility: u32, offset: u32) -> Result<u32, Refusal>
+    ensures { says result ≡ before_asked file.now facility offset }
 {
-    let c = find_change(file, facility, offset);
-    if c.refusal != 0 {
-        return NumberAnswer::Refused(c.refusal);
-    }
-    NumberAnswer::Number(delta::previous(file, offset as usize) as u32)
+    find_change(file, facility, offset)?;
+    Ok(delta::previous(file, offset as usize) as u32)
 }

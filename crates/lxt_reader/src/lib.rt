@@ -11,22 +11,19 @@ pub mod values;
 ghost use Rattle.std.specs.Prelude.{◌≡◌};
 ghost use Rattle.lxt_format.specs.Judge.{judge};
 ghost use Rattle.lxt_format.specs.Stray.{stray_asked};
-ghost use Rattle.lxt_format.specs.Answers.{judgement_says, number_says};
+ghost use Rattle.lxt_format.specs.Answers.{says};
 
 use lxt_chains::stray::count;
 use lxt_chains::whole::judged;
-use lxt_format::{Judgement, NumberAnswer, Summary};
+use lxt_format::{Refusal, Summary};
 
-// n, C, T, timescale, initial symbol and whether the padding of every change is 0, or the refusal's number.
-pub fn judge(file: &[u8]) -> Judgement
-    ensures { judgement_says result ≡ judge file.now }
+// n, C, T, timescale, initial symbol and whether the padding of every change is 0, or the refusal.
+pub fn judge(file: &[u8]) -> Result<Summary, Refusal>
+    ensures { says result ≡ judge file.now }
 {
-    let j = judged(file);
-    if j.refusal != 0 {
-        return Judgement::Refused(j.refusal);
-    }
+    let j = judged(file)?;
     let t = j.tables;
-    Judgement::Accepted(Summary {
+    Ok(Summary {
         facilities: t.facilities,
         changes: t.changes,
         end: t.end as u32,
@@ -36,13 +33,9 @@ pub fn judge(file: &[u8]) -> Judgement
     })
 }
 
-// How many bytes of the file lie in no change and in no section, or the refusal's number.
-pub fn stray(file: &[u8]) -> NumberAnswer
-    ensures { number_says result ≡ stray_asked file.now }
+// How many bytes of the file lie in no change and in no section, or the refusal.
+pub fn stray(file: &[u8]) -> Result<u32, Refusal>
+    ensures { says result ≡ stray_asked file.now }
 {
-    let c = count(file);
-    if c.refusal != 0 {
-        return NumberAnswer::Refused(c.refusal);
-    }
-    NumberAnswer::Number(c.stray)
+    count(file)
 }

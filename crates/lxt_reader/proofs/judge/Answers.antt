@@ -1,14 +1,14 @@
+use mathlib.Core.Path.{◌∙◌}
 use native.Mathlib.Omega.{arith}
+use Rattle.lxt_format.proofs.AnswerLaws.{says_passed}
 use Rattle.lxt_reader.proofs.JudgeWays.{judged_refused, judged_given, end_small}
 use Rattle.lxt_reader.proofs.judge.Goals as goal
 
-pub returns-then-j-ne0 : goal.returns-then-j-ne0
-returns-then-j-ne0 c = search judged_refused
+pub returns-in_err-j : goal.returns-in_err-j
+returns-in_err-j c = says_passed c.from_residual.result _ c.from_residual.ensures.1 ∙ judged_refused _ _ c.in_err-j.ensures
 
 pub overflow_cast-result : goal.overflow_cast-result
-overflow_cast-result c = omega (arith, end_small _ _ c.judged-j.ensures.tables _ c.judged-j.ensures.refusal c.if-j-ne0.false)
+overflow_cast-result c = omega (arith, end_small _ _ c.in_ok-j.ensures)
 
 pub returns : goal.returns
-returns c =
-    let told = c.judged-j.ensures in
-    judged_given _ _ told.tables _ told.refusal c.if-j-ne0.false _ (told.clean c.if-j-ne0.false)
+returns c = judged_given _ _ c.in_ok-j.ensures

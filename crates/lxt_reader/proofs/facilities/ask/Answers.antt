@@ -1,14 +1,17 @@
+use mathlib.Core.Path.{◌∙◌}
+use Rattle.lxt_format.proofs.AnswerLaws.{says_passed}
+use Rattle.lxt_reader.specs.Asking.{asked_of}
 use Rattle.lxt_reader.proofs.AskWays.{file_refused, not_below, geometry_there, asked_fine}
 use Rattle.lxt_reader.proofs.facilities.ask.Goals as goal
 
-pub returns-then-j-ne0 : goal.returns-then-j-ne0
-returns-then-j-ne0 c = search file_refused
+pub returns-in_err-tables : goal.returns-in_err-tables
+returns-in_err-tables c = says_passed c.from_residual.result _ c.from_residual.ensures.1 ∙ file_refused _ c.args.facility (asked_of c.args.file.now c.args.facility) _ c.in_err-tables.ensures
 
-pub returns-then-t-facility : goal.returns-then-t-facility
-returns-then-t-facility c = search not_below
+pub returns-then-tables-facility : goal.returns-then-tables-facility
+returns-then-tables-facility c = not_below _ _ _ c.in_ok-tables.ensures c.if-tables-facility.true
 
-pub root-requires : goal.root-requires
-root-requires c = search geometry_there
+pub root-root-requires : goal.root-root-requires
+root-root-requires c = geometry_there _ c.args.facility _ c.in_ok-tables.ensures
 
 pub returns : goal.returns
-returns c = search asked_fine
+returns c = asked_fine _ _ _ c.in_ok-tables.ensures c.if-tables-facility.false _ c.root-root.ensures

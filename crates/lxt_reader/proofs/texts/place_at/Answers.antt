@@ -1,29 +1,32 @@
+use Rattle.std.proofs.lemmas.Result.{err_from_is_err_and}
 use Rattle.lxt_values.proofs.BiasLaws.{latest_at_lem}
+use Rattle.lxt_reader.proofs.ChangeWays.{chained}
 use Rattle.lxt_reader.proofs.ValueWays.{latest_asks}
 use Rattle.lxt_reader.proofs.TextWays.{text_refused, text_another, text_lent, text_there, text_found}
 use Rattle.lxt_reader.proofs.texts.place_at.Goals as goal
 
-pub returns-then-chain-ne0 : goal.returns-then-chain-ne0
-returns-then-chain-ne0 c = text_refused _ _ c.args.time _ _ c.find_chain-chain.ensures c.if-chain-ne0.true
+pub returns-in_err-chain : goal.returns-in_err-chain
+returns-in_err-chain c =
+    let p = err_from_is_err_and c.from_residual.result c.from_residual.ensures.1 in
+    rw (p.1, p.2) (text_refused _ _ c.args.time _ _ c.in_err-chain.ensures)
 
 pub returns-in_default : goal.returns-in_default
-returns-in_default c = text_another _ _ c.args.time _ _ c.find_chain-chain.ensures c.if-chain-ne0.false c.in_default.not-Text
+returns-in_default c = text_another _ _ c.args.time _ _ (chained _ _ _ c.in_ok-chain.ensures) c.in_default.not-Text
 
 pub latest-found-requires : goal.latest-found-requires
-latest-found-requires c = latest_asks _ _ c.args.time _ c.find_chain-chain.ensures c.if-chain-ne0.false
+latest-found-requires c = latest_asks _ _ c.args.time _ (chained _ _ _ c.in_ok-chain.ensures)
 
 pub returns-then-found-eq0 : goal.returns-then-found-eq0
 returns-then-found-eq0 c =
     let latest = latest_at_lem _ _ c.ranges.time _ _ _ c.latest-found.ensures in
-    text_lent _ _ _ _ _ c.find_chain-chain.ensures c.if-chain-ne0.false c.in-Text.is _ _ latest c.if-found-eq0.true
+    text_lent _ _ _ _ _ (chained _ _ _ c.in_ok-chain.ensures) c.in-Text.is _ _ latest c.if-found-eq0.true
 
 pub text_of-requires : goal.text_of-requires
 text_of-requires c =
     let latest = latest_at_lem _ _ c.ranges.time _ _ _ c.latest-found.ensures in
-    text_there _ _ _ 0 _ c.find_chain-chain.ensures c.if-chain-ne0.false c.in-Text.is _ _ latest c.if-found-eq0.false
+    text_there _ _ _ 0 _ (chained _ _ _ c.in_ok-chain.ensures) c.in-Text.is _ _ latest c.if-found-eq0.false
 
 pub returns : goal.returns
 returns c =
     let latest = latest_at_lem _ _ c.ranges.time _ _ _ c.latest-found.ensures in
-    text_found _ _ _ _ _ c.find_chain-chain.ensures c.if-chain-ne0.false c.in-Text.is _ _ latest c.if-found-eq0.false _
-    c.text_of.ensures
+    text_found _ _ _ _ _ (chained _ _ _ c.in_ok-chain.ensures) c.in-Text.is _ _ latest c.if-found-eq0.false _ c.text_of.ensures
