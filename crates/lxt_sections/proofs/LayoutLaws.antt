@@ -1,9 +1,10 @@
 -- The layout of a time table, whose times have 8 or 4 bytes.
-use Prim.Native.Nat.{ℕ, ◌+◌, ◌-◌, ◌*◌, ◌≤◌, ◌<◌}
+use Prim.Native.Nat.{ℕ, ◌+◌, ◌*◌, ◌≤◌, ◌<◌, ◌%◌}
 use mathlib.Core.Path.{◌≡◌, ◌∙◌}
 use mathlib.Core.Bool.{Bool, true, false}
 use mathlib.Core.List.{List}
 use native.Mathlib.Nat.{le_refl, mul-le-mul}
+use native.Mathlib.Decide.{dec_le}
 use native.Mathlib.Omega.{arith}
 use borrow.Author.Tests.{lt-ltb, le-ltb}
 use Rattle.lxt_format.specs.Bytes.{byte_at, number_at, u32_at}
@@ -64,8 +65,9 @@ eight s at x e =
     omega (arith, number_8 s at, u32_bytes s at)
 
 -- the time of bytes, with the bias
-pub biased_low : (x : ℕ) → x < bias → bias + x ≡ biased_bytes x
-biased_low x h = rw (lt-ltb x bias h)
-
-pub biased_high : (x : ℕ) → bias ≤ x → x - bias ≡ biased_bytes x
-biased_high x h = rw (le-ltb x bias h)
+pub biased_is : (x : ℕ) → x < 18446744073709551616 → (x + bias) % 18446744073709551616 ≡ biased_bytes x
+biased_is x top =
+    elim (dec_le bias x) [
+      | yes h ↦ simp (le-ltb x bias h) (omega arith)
+      | no n ↦ (let h : x < bias = omega arith in simp (lt-ltb x bias h) (omega arith))
+    ]

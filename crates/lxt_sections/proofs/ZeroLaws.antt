@@ -3,13 +3,13 @@ use Prim.Native.Nat.{ℕ, suc, ◌+◌, ◌-◌, ◌≤◌, ◌<◌, max}
 use mathlib.Core.Path.{◌≡◌, refl}
 use mathlib.Core.List.{List, ◌∷◌}
 use lib.ListN.{length, take, drop_of_length-le}
-use lib.Seq.{slice, slice-cons, length-slice, length-take-le}
+use lib.Seq.{slice, slice-cons, length-take-le}
 use native.Mathlib.Decide.{dec_le}
 use native.Mathlib.Omega.{arith}
 use Rattle.std.proofs.Math.Nat.{max-eq_left, max-eq_right}
 use native.Mathlib.Numerals.{add-one}
 use Rattle.lxt_format.specs.Bytes.{byte_at, to_zero}
-use Rattle.lxt_format.specs.BytesLaws.{zero_later, to_zero_le}
+use Rattle.lxt_format.specs.BytesLaws.{zero_later}
 
 -- no zero stands from `from` up to p: the first one from p on is the first one from `from` on
 pub record Passed (s : List ℕ) (from end p : ℕ) : Type 0 where

@@ -15,12 +15,6 @@ use lxt_format::{File, Refusal, SectionCursor, Summary};
 pub mod times;
 pub mod zeros;
 
-pub fn wide(x: u8) -> u32
-    ensures { (result ≡ x) × (result < 256) }
-{
-    u32::from(x)
-}
-
 // The number in the two bytes from `at` on.
 pub fn be16(file: &[u8], at: usize) -> u32
     requires { at + 2 ≤ length file.now }

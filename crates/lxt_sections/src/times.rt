@@ -68,10 +68,7 @@ pub const BIAS: u64 = 0x8000_0000_0000_0000;
 pub fn biased(bytes: u64) -> u64
     ensures { result ≡ biased_bytes bytes }
 {
-    if bytes < BIAS {
-        return BIAS + bytes;
-    }
-    bytes - BIAS
+    bytes.wrapping_add(BIAS)
 }
 
 // The deltas of one entry: the bytes of the time's.

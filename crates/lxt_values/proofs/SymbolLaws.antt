@@ -1,12 +1,11 @@
 -- The laws of writing symbols: a buffer whose front they fill, and which symbol each place has, one law over the symbol's size of b bits.
 use Prim.Native.Nat.{ℕ, zero, suc, ◌+◌, ◌*◌, ◌-◌, ◌≤◌, ◌<◌, ◌/◌, ◌%◌, ◌^◌}
-use mathlib.Core.Path.{◌≡◌, refl, sym, ap, ◌∙◌}
+use mathlib.Core.Path.{◌≡◌, refl, ap, ◌∙◌}
 use mathlib.Core.List.{List, [], ◌∷◌, ◌++◌, map}
-use lib.ListN.{length, get_or, take, drop, set, replicate, length-set, length-map, length-replicate, get_or-replicate}
-use lib.Seq.{slice, length-slice, get_or-drop, get_or-take, set_at, take-suc, drop-cons, take_all, append_snoc, length-take-le}
+use lib.ListN.{length, get_or, take, drop, replicate, length-map}
+use lib.Seq.{slice, length-slice, get_or-drop, get_or-take, take_all, length-take-le}
 use lib.Dec.{lit<}
 use native.Mathlib.Omega.{arith}
-use native.Mathlib.Numerals.{add-one}
 use native.Mathlib.Nat.{div-lt_iff_lt-mul, mul_comm}
 use Rattle.lxt_format.specs.Bytes.{byte_at}
 use Rattle.lxt_format.specs.Changes.{packed_size, codes_at}

@@ -1,4 +1,3 @@
-use Prim.Native.Nat.{◌-◌}
 use Rattle.lxt_tables.proofs.AliasLaws.{Putting}
 use Rattle.lxt_tables.proofs.aliases.put_roots.Given as goal
 

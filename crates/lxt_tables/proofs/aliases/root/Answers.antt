@@ -1,4 +1,3 @@
-use borrow.Author.Tests.{not-false}
 use native.Mathlib.Omega.{arith}
 use Rattle.lxt_tables.proofs.AliasLaws.{way_begun, way_over, way_out, way_root, way_next}
 use Rattle.lxt_tables.proofs.aliases.root.Goals as goal

@@ -1,4 +1,4 @@
-use Prim.Native.Nat.{◌≤◌, ◌-◌}
+use Prim.Native.Nat.{◌≤◌}
 use mathlib.Core.Path.{◌≡◌}
 use Rattle.lxt_format.specs.Reals.{has_real}
 use Rattle.lxt_tables.proofs.RootsLaws.{any_root}

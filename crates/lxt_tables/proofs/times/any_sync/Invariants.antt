@@ -1,4 +1,4 @@
-use Prim.Native.Nat.{◌≤◌, ◌-◌}
+use Prim.Native.Nat.{◌≤◌}
 use mathlib.Core.Path.{◌≡◌}
 use Rattle.lxt_format.specs.Basics.{any}
 use Rattle.lxt_format.specs.Geometry.{roots_of}

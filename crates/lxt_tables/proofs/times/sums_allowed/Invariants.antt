@@ -1,5 +1,4 @@
 use lib.ListN.{drop}
-use Prim.Native.Nat.{◌-◌}
 use Rattle.lxt_format.specs.Bytes.{numbers_at}
 use Rattle.lxt_format.specs.Sections.{time_bytes}
 use Rattle.lxt_tables.specs.Asked.{rises_to}

@@ -3,7 +3,7 @@ use native.Mathlib.Nat.{le_refl}
 use native.Mathlib.Omega.{arith}
 use borrow.Author.Rules.{rules}
 use Rattle.lxt_values.proofs.SymbolLaws.{some_bits, some_fit}
-use Rattle.lxt_values.proofs.StepLaws.{steps_begun, steps_within, whole_asks, whole_fits, whole_turn, all_done, last_asks, last_fits, last_done, stepped}
+use Rattle.lxt_values.proofs.StepLaws.{steps_begun, steps_within, whole_asks, whole_turn, all_done, last_asks, last_fits, last_done, stepped}
 use Rattle.lxt_values.proofs.symbols.unpack.Goals as goal
 
 pub nonzero_div-places : goal.nonzero_div-places
