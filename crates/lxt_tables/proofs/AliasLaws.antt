@@ -3,7 +3,7 @@ use Rattle.std.specs.Prelude.{if◌then◌else◌}
 use Prim.Native.Nat.{ℕ, suc, ◌+◌, ◌-◌, ◌≤◌, ◌<◌}
 use mathlib.Core.Path.{◌≡◌, refl, sym, ◌∙◌}
 use mathlib.Core.Bool.{Bool, true, false, not, false≢true}
-use mathlib.Core.List.{List}
+use mathlib.Core.List.{List, []}
 use lib.Dec.{ltb, leb}
 use lib.ListN.{length, get_or, set, replicate, length-set, length-replicate, get_or-replicate}
 use lib.Seq.{get_or-set_same, get_or-set_other}
@@ -18,7 +18,7 @@ use Rattle.lxt_format.specs.Sections.{facility_count}
 use Rattle.lxt_format.specs.Geometry.{rows_of, is_alias, root_within, root_of, aliases_allowed}
 use Rattle.lxt_format.proofs.GeometryLaws.{root_outside, root_here, root_next, root_self}
 use Rattle.lxt_tables.specs.Stage.{Geometry}
-use Rattle.lxt_tables.specs.Asked.{Roots, Stores, Resolved}
+use Rattle.lxt_tables.specs.Asked.{Right, Roots, Stores, Resolved}
 use Rattle.lxt_tables.proofs.WayLaws.{passing, passing_same, root_of_alias}
 
 -- the facility that f stands for
@@ -96,8 +96,15 @@ module _ (s : List ℕ) (g n : ℕ) (p : Geometry s g n) where
 
   -- ---- by a table of roots
 
-  pub way_known : (f at : ℕ) (roots : List ℕ) → Roots s n f roots → root_of s at ≡ root_of s f → at < n → (k : ℕ) → k ≡ get_or roots at 0 → k < n → k ≡ root_of s f
-  way_known f at roots w e h k ek l = ek ∙ w.right at h (rw ek at l) ∙ e
+  pub none_right : Right s n []
+  none_right = record { entry = λ f h l k. absurd (omega arith) }
+
+  pub roots_right : (f : ℕ) (roots : List ℕ) → Roots s n f roots → Right s n roots
+  roots_right f roots w = record { entry = λ f h l k. w.right f h k }
+
+  pub way_known : (f at : ℕ) (roots : List ℕ) → Right s n roots → root_of s at ≡ root_of s f → at < n
+      → (k : ℕ) → (k < n → (at < length roots) × (k ≡ get_or roots at 0)) → k < n → k ≡ root_of s f
+  way_known f at roots w e h k known l = let q = known l in q.1 ∙ w.entry at h q.0 (rw q.1 at l) ∙ e
 
   pub way_alias : (f at : ℕ) → root_of s at ≡ root_of s f → at < n → (a : Bool) → a ≡ is_alias s at → a ≡ true → (t : ℕ) → t ≡ rows_of s at → root_of s t ≡ root_of s f
   way_alias f at e h a ea y t et = rw et (root_of_alias s at (rw (← p.count) h) (sym ea ∙ y) ∙ e)

@@ -22,7 +22,11 @@ pub record Roots (s : List ℕ) (n f : ℕ) (roots : List ℕ) : Type 0 where
   pub right : (g : ℕ) → g < n → get_or roots g 0 < n → get_or roots g 0 ≡ root_of s g
   pub first : (g : ℕ) → g < f → get_or roots g 0 < n
 
--- such a table, and a root of f to store
+-- what a table has below n is right; an empty one has nothing
+pub record Right (s : List ℕ) (n : ℕ) (roots : List ℕ) : Type 0 where
+  pub entry : (g : ℕ) → g < n → g < length roots → get_or roots g 0 < n → get_or roots g 0 ≡ root_of s g
+
+-- a table of roots, and a root of f to store
 pub record Stores (s : List ℕ) (n f root : ℕ) (roots : List ℕ) : Type 0 where
   pub table : Roots s n f roots
   pub inside : f < n

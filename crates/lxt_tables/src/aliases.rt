@@ -1,10 +1,10 @@
 // Aliases and roots: refusal 12.
-ghost use Rattle.std.specs.Prelude.{◌≡◌, ◌+◌, ◌≤◌, ◌<◌, not, if◌then◌else◌};
+ghost use Rattle.std.specs.Prelude.{◌≡◌, ◌+◌, ◌≤◌, ◌<◌, length, get_or, not, if◌then◌else◌};
 ghost use Rattle.lxt_format.specs.Basics.{range, all};
 ghost use Rattle.lxt_format.specs.Limits.{most_facilities};
 ghost use Rattle.lxt_format.specs.Geometry.{rows_of, is_alias, root_of, aliases_allowed};
 ghost use Rattle.lxt_tables.specs.Stage.{Geometry};
-ghost use Rattle.lxt_tables.specs.Asked.{Roots, Stores, Resolved};
+ghost use Rattle.lxt_tables.specs.Asked.{Right, Roots, Stores, Resolved};
 
 use crate::geometry::{is_alias, rows};
 use lxt_format::Summary;
@@ -15,28 +15,20 @@ pub const ROOM: usize = Summary::MOST_FACILITIES as usize;
 
 pub const UNKNOWN: u32 = 0xFFFF_FFFF;
 
-// The root of facility `f`, or `n` where it has none. A way of more than `n` facilities meets one
-// twice and never ends.
-pub fn root(file: &[u8], geometry: usize, n: u32, f: u32) -> u32
-    requires { Geometry file.now geometry n }
-    ensures { result ≡ root_of file.now f }
+// What a table of roots has for facility `at`; `n` behind its end.
+fn entry(n: u32, roots: &[u32], at: u32) -> u32
+    ensures { result < n → (at < length roots.now) × (result ≡ get_or roots.now at 0) }
 {
-    let mut at = f;
-    for _i in 0..n {
-        if n <= at {
-            return n;
-        }
-        if !is_alias(file, geometry, n, at) {
-            return at;
-        }
-        at = rows(file, geometry, n, at);
+    if (at as usize) < roots.len() {
+        return roots[at as usize];
     }
-    n // a cycle
+    n
 }
 
-// The same, by a way that ends at the first facility whose root is in the table.
+// The root of facility `f`, or `n` where it has none, by a way that ends at the first facility whose root is
+// in the table. A way of more than `n` facilities meets one twice and never ends.
 fn root_by(file: &[u8], geometry: usize, n: u32, roots: &[u32], f: u32) -> u32
-    requires { Geometry file.now geometry n × Roots file.now n f roots.now }
+    requires { Geometry file.now geometry n × Right file.now n roots.now }
     ensures { result ≡ root_of file.now f }
 {
     let mut at = f;
@@ -44,7 +36,7 @@ fn root_by(file: &[u8], geometry: usize, n: u32, roots: &[u32], f: u32) -> u32
         if n <= at {
             return n;
         }
-        let known = roots[at as usize];
+        let known = entry(n, roots, at);
         if known < n {
             return known;
         }
@@ -54,6 +46,14 @@ fn root_by(file: &[u8], geometry: usize, n: u32, roots: &[u32], f: u32) -> u32
         at = rows(file, geometry, n, at);
     }
     n // the way goes round
+}
+
+// The same without a table.
+pub fn root(file: &[u8], geometry: usize, n: u32, f: u32) -> u32
+    requires { Geometry file.now geometry n }
+    ensures { result ≡ root_of file.now f }
+{
+    root_by(file, geometry, n, &[], f)
 }
 
 // The facility that an alias stands for; any other one itself.

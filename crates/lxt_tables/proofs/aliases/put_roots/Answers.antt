@@ -1,8 +1,11 @@
-use Rattle.lxt_tables.proofs.AliasLaws.{put_begun, put_stop, put_turn, put_end}
+use Rattle.lxt_tables.proofs.AliasLaws.{put_begun, put_stop, put_turn, put_end, roots_right}
 use Rattle.lxt_tables.proofs.aliases.put_roots.Goals as goal
 
 pub loop-f-init : goal.loop-f-init
 loop-f-init c = search put_begun
+
+pub root_by-root-requires : goal.root_by-root-requires
+root_by-root-requires c = (c.requires.0, roots_right _ _ _ c.requires.0 _ _ c.loop-f.invariant.table)
 
 pub returns-then-n-root : goal.returns-then-n-root
 returns-then-n-root c = search put_stop
