@@ -1,11 +1,14 @@
 -- Laws of padding.
-use Prim.Native.Nat.{ℕ, suc, ◌+◌, ◌*◌, ◌-◌, ◌≤◌, ◌<◌, ◌/◌, ◌%◌, ◌^◌, zero-le}
-use mathlib.Core.Path.{◌≡◌, ◌∙◌}
+use Prim.Native.Nat.{ℕ, zero, suc, ◌+◌, ◌*◌, ◌-◌, ◌≤◌, ◌<◌, ◌/◌, ◌%◌, ◌^◌, zero-le}
+use mathlib.Core.Path.{◌≡◌, ◌∙◌, refl}
 use mathlib.Core.Logic.{◌⊎◌, inl, inr}
-use mathlib.Core.Bool.{Bool, true, false≢true}
+use mathlib.Core.Bool.{Bool, true, false, not, false≢true}
 use mathlib.Core.List.{List}
 use lib.ListN.{length}
-use lib.Dec.{eqb}
+use lib.Dec.{eqb, leb}
+use Rattle.std.specs.Int.Count.{count_trailing_zeros}
+use Rattle.lxt_format.specs.Basics.{range, all}
+use Rattle.lxt_format.specs.BasicsLaws.{all_range}
 use native.Mathlib.Omega.{arith}
 use native.Mathlib.Nat.{mod-one}
 use Rattle.lxt_format.specs.Bytes.{byte_at}
@@ -16,19 +19,37 @@ use Rattle.lxt_format.specs.declared.Kind.TheVariants.{Bits, Integer, Real, Text
 use Rattle.lxt_changes.specs.Faults.{symbolic}
 use Rattle.lxt_changes.specs.Padding.{Inside}
 
--- the lowest bits, by their number
-pub low_bits : (x k j : ℕ) → k ≡ j → eqb (x % 2 ^ j) 0 ≡ eqb (x % 2 ^ k) 0
-low_bits x k j e = rw e
+-- two tests that say the same
+alike : Bool → Bool → Bool
+alike true b = b
+alike false b = not b
 
-above : (k j : ℕ) → j ≤ k → (k ≡ j → ⊥) → suc j ≤ k
-above k j h n = omega arith
+alike_is : (a b : Bool) → alike a b ≡ true → a ≡ b
+unfolding alike
+alike_is true true h = refl
+alike_is true false h = absurd (false≢true h)
+alike_is false true h = absurd (false≢true h)
+alike_is false false h = refl
 
-eighth : (k : ℕ) → 7 ≤ k → k < 8 → k ≡ 7
-eighth k h l = omega arith
+-- the lowest k bits of a byte are 0 where it ends in as many zeros
+few : ℕ → ℕ → Bool
+few k x = alike (leb k (count_trailing_zeros 8 x)) (eqb (x % 2 ^ k) 0)
 
--- the last of the eight
-pub seven : (k : ℕ) → k < 8 → (k ≡ 0 → ⊥) → (k ≡ 1 → ⊥) → (k ≡ 2 → ⊥) → (k ≡ 3 → ⊥) → (k ≡ 4 → ⊥) → (k ≡ 5 → ⊥) → (k ≡ 6 → ⊥) → k ≡ 7
-seven k l a b c d e f g = eighth k (above k 6 (above k 5 (above k 4 (above k 3 (above k 2 (above k 1 (above k 0 zero-le a) b) c) d) e) f) g) l
+all_few : (k : ℕ) → k < 8 → all (few k) (range 0 256) ≡ true
+unfolding few alike all range count_trailing_zeros
+all_few zero h = refl
+all_few (suc zero) h = refl
+all_few (suc (suc zero)) h = refl
+all_few (suc (suc (suc zero))) h = refl
+all_few (suc (suc (suc (suc zero)))) h = refl
+all_few (suc (suc (suc (suc (suc zero))))) h = refl
+all_few (suc (suc (suc (suc (suc (suc zero)))))) h = refl
+all_few (suc (suc (suc (suc (suc (suc (suc zero))))))) h = refl
+all_few (suc (suc (suc (suc (suc (suc (suc (suc k)))))))) h = absurd (omega arith)
+
+pub low_bits : (k x : ℕ) → k < 8 → x < 256 → leb k (count_trailing_zeros 8 x) ≡ eqb (x % 2 ^ k) 0
+unfolding few
+low_bits k x h l = alike_is _ _ (all_range (few k) 0 256 (all_few k h) x zero-le l)
 
 -- the unused bits of the last byte are fewer than 8
 pub unused_lt : (b width size : ℕ) → size ≡ packed_size b width → (b * width ≤ 8 * size) × (8 * size - b * width < 8)

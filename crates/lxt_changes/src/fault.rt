@@ -163,7 +163,7 @@ pub fn first_fault(
     // a chain of offsets, not a count
     while o != 0 {
         let found = change_fault(file, from, end, zero, kind, width, o, w)?;
-        clean = clean & found.clean;
+        clean &= found.clean;
         w = found.window;
         o = delta::previous(file, o);
     }

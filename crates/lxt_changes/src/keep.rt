@@ -57,7 +57,7 @@ fn all_good(file: &[u8], from: usize, to: usize) -> bool
 {
     let mut all = true;
     for p in from..to {
-        all = all & symbols::good(file[p]);
+        all &= symbols::good(file[p]);
     }
     all
 }

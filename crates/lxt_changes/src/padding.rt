@@ -7,21 +7,12 @@ ghost use Rattle.lxt_changes.specs.Padding.{Inside};
 use crate::{delta, symbols};
 use lxt_format::Kind;
 
-// The lowest `k` bits of a byte are 0. Each divisor is a literal, so that nothing is divided.
+// The lowest `k` bits of a byte are 0.
 fn low_bits_are_0(byte: u8, k: usize) -> bool
     requires { k < 8 }
     ensures { result ≡ eqb (byte % 2 ^ k) 0 }
 {
-    match k {
-        0 => byte % 1 == 0,
-        1 => byte % 2 == 0,
-        2 => byte % 4 == 0,
-        3 => byte % 8 == 0,
-        4 => byte % 16 == 0,
-        5 => byte % 32 == 0,
-        6 => byte % 64 == 0,
-        _ => byte % 128 == 0,
-    }
+    k <= byte.trailing_zeros() as usize
 }
 
 // The padding of `width` symbols of `b` bits from `at` on is 0. Where there is no data there is none: no bit
