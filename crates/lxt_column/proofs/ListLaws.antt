@@ -1,13 +1,14 @@
 -- The laws of the list of facility numbers: whether all are below n, and what is added up along it.
 use Prim.Native.Nat.{ℕ, zero, suc, ◌+◌, ◌*◌, ◌≤◌, ◌<◌}
-use mathlib.Core.Path.{◌≡◌, refl}
-use mathlib.Core.Bool.{Bool, true, false}
+use mathlib.Core.Path.{◌≡◌, refl, ap}
+use mathlib.Core.Bool.{Bool, ◌&&◌}
 use mathlib.Core.List.{List, [], ◌∷◌, map}
 use lib.ListN.{length, get_or, drop}
 use lib.Seq.{drop-cons}
 use lib.Dec.{ltb}
 use native.Mathlib.Omega.{arith}
 use native.Mathlib.Nat.{mul-suc}
+use Rattle.std.specs.List.{list_all}
 use Rattle.lxt_format.specs.Basics.{◌unless◌, all, total, first_fault}
 use Rattle.lxt_format.specs.BasicsLaws.{on_test}
 use Rattle.lxt_format.specs.Sections.{facility_count}
@@ -23,28 +24,11 @@ drop_all (x ∷ l) (suc i) h = drop_all l i (omega arith)
 
 -- ---- a test of all
 
--- the test of what is left tells that of the whole
-pub record Testing (p : ℕ → Bool) (l : List ℕ) (i : ℕ) : Type 0 where
-  pub left : all p (drop i l) ≡ all p l
-
-pub test_begun : {p : ℕ → Bool} {l : List ℕ} → Testing p l 0
-test_begun = record { left = refl }
-
-module _ {p : ℕ → Bool} {l : List ℕ} {i : ℕ} (w : Testing p l i) where
-  pub test_ended : length l ≤ i → true ≡ all p l
-  unfolding all
-  test_ended h = rw (drop_all l i h) at w.left
-
-  module _ (below : i < length l) where
-    pub test_failed : p (get_or l i 0) ≡ false → false ≡ all p l
-    unfolding all
-    test_failed h = simp (drop-cons l i 0 below, h) at w.left
-
-    pub test_turn : p (get_or l i 0) ≡ true → Testing p l (i + 1)
-    unfolding all
-    test_turn h =
-        let next : suc i ≡ i + 1 = omega arith in
-        record { left = rw (← next) (simp (drop-cons l i 0 below, h) at w.left) }
+-- it is that of the library
+pub all_list : (p : ℕ → Bool) (l : List ℕ) → all p l ≡ list_all p l
+unfolding all
+all_list p [] = refl
+all_list p (x ∷ l) = ap (λ b. p x && b) (all_list p l)
 
 -- the first refused number's refusal, in an accepted file: 18, except where all are below n
 pub first_refusal : (s : List ℕ) → file_refusal s ≡ 0 → (asked : List ℕ) → first_fault (map (facility_refusal s) asked) ≡ (18 unless all (λ f. ltb f (facility_count s)) asked)

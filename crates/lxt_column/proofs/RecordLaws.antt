@@ -1,59 +1,14 @@
 -- The laws of records.
 use Prim.Native.Nat.{ℕ}
 use mathlib.Core.Path.{◌≡◌, refl, ◌∙◌}
-use mathlib.Core.List.{List, [], ◌∷◌}
-use lib.Ieee.{Float}
+use mathlib.Core.List.{List}
 use Rattle.lxt_format.specs.Basics.{Answer, given}
 use Rattle.lxt_format.specs.Values.{Content, bits, real, text, not_driven, source_of, source_by}
-use Rattle.lxt_format.specs.Answers.{Shown, shown, value_says}
+use Rattle.lxt_format.specs.Answers.{Shown, shown}
 use Rattle.lxt_format.specs.Questions.{record_of, record_by}
 use Rattle.lxt_format.specs.declared.Kind.{Kind}
 use Rattle.lxt_format.specs.declared.Kind.TheVariants.{Bits, Integer, Real, Text}
-use Rattle.lxt_format.specs.declared.Value.{Value}
-use Rattle.lxt_format.specs.declared.Value.TheVariants as ofValue
 use Rattle.lxt_column.specs.Listing.{undriven, record_from}
-
--- ---- a facility without a change
-
-module _ (kind : Kind) (lent : ℕ) where
-  pub none_of_bits : kind ≡ Bits → (3 ∷ 0 ∷ 0 ∷ 0 ∷ []) ≡ undriven kind lent
-  unfolding undriven
-  none_of_bits e = rw e
-
-  pub none_of_integer : kind ≡ Integer → (3 ∷ 0 ∷ 0 ∷ 0 ∷ []) ≡ undriven kind lent
-  unfolding undriven
-  none_of_integer e = rw e
-
-  pub none_of_real : kind ≡ Real → (3 ∷ 0 ∷ 0 ∷ 0 ∷ []) ≡ undriven kind lent
-  unfolding undriven
-  none_of_real e = rw e
-
-  pub none_of_text : kind ≡ Text → (4 ∷ 0 ∷ lent ∷ 0 ∷ []) ≡ undriven kind lent
-  unfolding undriven
-  none_of_text e = rw e
-
--- ---- by the cases of a value
-
-module _ (start lent : ℕ) (kind : Kind) (value : Value) where
-  pub of_bits : (width : ℕ) → value ≡ ofValue.Bits width → (0 ∷ start ∷ width ∷ 0 ∷ []) ≡ record_from start lent kind (value_says value)
-  unfolding record_from
-  of_bits width e = rw e
-
-  pub of_real : (x : Float) (b : ℕ) → value ≡ ofValue.Real x b → (1 ∷ 0 ∷ 0 ∷ b ∷ []) ≡ record_from start lent kind (value_says value)
-  unfolding record_from
-  of_real x b e = rw e
-
-  pub of_text : (from size : ℕ) → value ≡ ofValue.Text from size → (2 ∷ from ∷ size ∷ 0 ∷ []) ≡ record_from start lent kind (value_says value)
-  unfolding record_from
-  of_text from size e = rw e
-
-  pub of_none : value ≡ ofValue.NotDriven → (r : List ℕ) → r ≡ undriven kind lent → r ≡ record_from start lent kind (value_says value)
-  unfolding record_from
-  of_none e r h = rw e h
-
-  pub of_refused : (n : ℕ) → value ≡ ofValue.Refused n → (3 ∷ 0 ∷ 0 ∷ 0 ∷ []) ≡ record_from start lent kind (value_says value)
-  unfolding record_from
-  of_refused n e = rw e
 
 -- ---- by a content
 

@@ -53,28 +53,28 @@ const NOT_DRIVEN: u64 = 3;
 const LENT_TEXT: u64 = 4;
 
 // The record of a facility without a change up to the time that has no bits: a text is the lent one.
+#[tactic(auto, unfolding(crate::specs::Listing::undriven))]
 fn undriven(kind: Kind, lent: usize) -> [u64; 4]
     ensures { result ≡ undriven kind lent }
 {
     match kind {
-        Kind::Bits => [NOT_DRIVEN, 0, 0, 0],
-        Kind::Integer => [NOT_DRIVEN, 0, 0, 0],
-        Kind::Real => [NOT_DRIVEN, 0, 0, 0],
+        Kind::Bits | Kind::Integer | Kind::Real => [NOT_DRIVEN, 0, 0, 0],
         Kind::Text => [LENT_TEXT, 0, lent as u64, 0],
     }
 }
 
 // The record of a value whose bits, if it has some, start at `start`.
+#[tactic(auto, unfolding(crate::specs::Listing::record_from))]
 fn record_of(kind: Kind, value: Value, start: usize, lent: usize) -> [u64; 4]
     ensures { result ≡ record_from start lent kind (value_says value) }
 {
     match value {
-        Value::Bits { width } => [BITS, start as u64, width as u64, 0],
-        Value::Real { number: _, bits } => [REAL, 0, 0, bits],
+        Value::Bits { width } => [BITS, start as u64, u64::from(width), 0],
+        Value::Real { bits, .. } => [REAL, 0, 0, bits],
         Value::Text {
             start: from,
             length,
-        } => [TEXT, from as u64, length as u64, 0],
+        } => [TEXT, u64::from(from), u64::from(length), 0],
         Value::NotDriven => undriven(kind, lent),
         Value::Refused(_) => [NOT_DRIVEN, 0, 0, 0],
     }
@@ -96,10 +96,16 @@ fn item_at(
     ensures value { result ≡ record_by start (shown (content_from file.now t.initial kind width o)) (source_by kind (content_from file.now t.initial kind width o) lent) }
     ensures bits_after { bits.new ≡ placed bits.old start (written (content_from file.now t.initial kind width o)) }
 {
-    let order = t.order;
-    let code = t.initial;
-    let end = t.end;
-    let value = value::at(file, end, order, code, kind, width, o, &mut bits[start..]);
+    let value = value::at(
+        file,
+        t.end,
+        t.order,
+        t.initial,
+        kind,
+        width,
+        o,
+        &mut bits[start..],
+    );
     record_of(kind, value, start, lent)
 }
 
@@ -126,16 +132,22 @@ pub fn put_all(
     let end = times::limit_at(file, t.times as usize, t.time_count, t.wide_times, time);
     let mut start: usize = 0;
     let mut visited: u64 = 0;
-    let mut i: usize = 0;
-    while i < facilities.len() {
-        let root = roots[facilities[i] as usize];
+    for (i, &facility) in facilities.iter().enumerate() {
+        let root = roots[facility as usize];
         let found = latest_of(file, t, end, root, known);
         let facts = geometry::own_facts(file, t.geometry as usize, t.facilities, root);
-        let kind = facts.kind;
-        records[i] = item_at(file, t, kind, facts.width, found.offset, lent, start, bits);
+        records[i] = item_at(
+            file,
+            t,
+            facts.kind,
+            facts.width,
+            found.offset,
+            lent,
+            start,
+            bits,
+        );
         start += facts.width as usize;
         visited += found.visited as u64;
-        i += 1;
     }
     visited
 }

@@ -11,14 +11,7 @@ use lxt_tables::{Tables, geometry};
 pub fn all_below(facilities: &[u32], n: u32) -> bool
     ensures { result ≡ all (λ f. ltb f n) facilities.now }
 {
-    let mut i: usize = 0;
-    while i < facilities.len() {
-        if n <= facilities[i] {
-            return false;
-        }
-        i += 1;
-    }
-    true
+    facilities.iter().all(|&f| f < n)
 }
 
 // The widths of all facilities of the list together.
@@ -27,12 +20,10 @@ pub fn widths(file: &[u8], t: Tables, roots: &[u32], facilities: &[u32]) -> usiz
     ensures { result ≡ widths_of file.now facilities.now }
 {
     let mut sum: usize = 0;
-    let mut i: usize = 0;
-    while i < facilities.len() {
-        let root = roots[facilities[i] as usize];
+    for &facility in facilities {
+        let root = roots[facility as usize];
         let facts = geometry::own_facts(file, t.geometry as usize, t.facilities, root);
         sum += facts.width as usize;
-        i += 1;
     }
     sum
 }

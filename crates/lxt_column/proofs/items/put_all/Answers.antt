@@ -14,11 +14,11 @@ loop-i-init c = put_begun (nothing_known _ _ _ c.requires.forgotten)
 pub overflow_cast-root : goal.overflow_cast-root
 overflow_cast-root c = record { fits = omega (arith, number_small c.requires.listed c.loop-i-test.true) }
 
-pub offset_bounds-roots-facilities : goal.offset_bounds-roots-facilities
-offset_bounds-roots-facilities c = record { fits = omega (arith, number_small c.requires.listed c.loop-i-test.true) }
+pub offset_bounds-roots-facility : goal.offset_bounds-roots-facility
+offset_bounds-roots-facility c = record { fits = omega (arith, number_small c.requires.listed c.loop-i-test.true) }
 
-pub bounds-roots-facilities : goal.bounds-roots-facilities
-bounds-roots-facilities c = root_inside c.requires.listed c.loop-i-test.true
+pub bounds-roots-facility : goal.bounds-roots-facility
+bounds-roots-facility c = root_inside c.requires.listed c.loop-i-test.true
 
 pub latest_of-found-requires : goal.latest_of-found-requires
 latest_of-found-requires c = (rooted c.requires.listed c.loop-i-test.true, c.loop-i.invariant.remembered)
@@ -48,12 +48,6 @@ pub overflow_add-visited : goal.overflow_add-visited
 overflow_add-visited c =
     let found = listed_found c.requires.listed c.loop-i-test.true c.limit_at-end.ensures c.latest_of-found.ensures.offset_value c.own_facts-facts.ensures in
     record { fits = sum_fits c.loop-i.invariant c.loop-i-test.true c.requires.facilities_in_bounds found c.requires.listed.0.short }
-
-pub overflow_add-i : goal.overflow_add-i
-overflow_add-i c = record { fits = omega (arith, c.loop-i-test.true, c.requires.listed.0.short) }
-
-pub loop-i-smaller : goal.loop-i-smaller
-loop-i-smaller c = omega (arith, c.loop-i-test.true)
 
 pub loop-i-preserved : goal.loop-i-preserved
 loop-i-preserved c =

@@ -1,19 +1,12 @@
-use native.Mathlib.Omega.{arith}
-use borrow.Author.Tests.{lt-ltb, le-ltb}
-use Rattle.lxt_column.proofs.ListLaws.{test_begun, test_ended, test_failed, test_turn}
+use mathlib.Core.Path.{sym, ◌∙◌}
+use lib.Dec.{ltb}
+use Rattle.std.proofs.Common.{rules, tests}
+use Rattle.std.proofs.lemmas.Iterator.{YieldsList-from_slice}
+use Rattle.std.proofs.lemmas.Iterator.Search.{all_from_yields_List}
+use Rattle.lxt_column.proofs.ListLaws.{all_list}
 use Rattle.lxt_column.proofs.list.all_below.Goals as goal
 
-pub loop-i-init : goal.loop-i-init
-loop-i-init c = test_begun
-
-pub returns-then-n-facilities : goal.returns-then-n-facilities
-returns-then-n-facilities c = test_failed c.loop-i.invariant c.loop-i-test.true (le-ltb _ _ c.if-n-facilities.true)
-
-pub loop-i-smaller : goal.loop-i-smaller
-loop-i-smaller c = omega (arith, c.loop-i-test.true)
-
-pub loop-i-preserved : goal.loop-i-preserved
-loop-i-preserved c = test_turn c.loop-i.invariant c.loop-i-test.true (lt-ltb _ _ c.if-n-facilities.false)
-
 pub returns : goal.returns
-returns c = test_ended c.loop-i.invariant c.loop-i-test.false
+returns c =
+    all_from_yields_List (λ f. ltb f c.args.n) _ _ c.all.result c.all.ensures.ran (YieldsList-from_slice c.args.facilities.now cc) (λ x b q k. search (rules, tests))
+    ∙ sym (all_list _ _)
