@@ -2,7 +2,7 @@
 use Prim.Native.Nat.{ℕ, suc, ◌+◌, ◌-◌, ◌%◌, ◌≤◌, ◌<◌, zero-le}
 use native.Mathlib.Omega.{arith}
 use native.Mathlib.Decide.{dec_le, ℕ_discrete}
-use mathlib.Core.Path.{◌≡◌, refl, sym, ap, ◌∙◌}
+use mathlib.Core.Path.{◌≡◌, sym, ap, ◌∙◌}
 use mathlib.Core.Bool.{true, false, true≢false, false≢true}
 use mathlib.Core.List.{List}
 use lib.ListN.{length, get_or, set, length-set, get_or-eq_default}
@@ -21,7 +21,8 @@ use Rattle.lxt_chains.proofs.WindowLaws.{high_upto, upto_high}
 use Rattle.lxt_chains.proofs.GroupLawsFaults.{none_faulty, fault_now, no_fault_now, fault_then, fault_since, fault_late}
 use Rattle.lxt_chains.proofs.GroupLawsSlots.{same_alike, then_alike, Without, After, settles, settled}
 use Rattle.lxt_chains.specs.declared.chains.Chains.{Chains}
-use Rattle.lxt_chains.specs.declared.groups.Passed.{Passed}
+use Rattle.lxt_chains.proofs.PassLaws.{known_same}
+use Rattle.std.proofs.Common.{Option, Some, None}
 
 -- ---- a visit
 
@@ -66,17 +67,17 @@ module _ (s : List ℕ) (c : Chains) (ready : Ready s c) (base i : ℕ) (os slot
         | no q ↦ omega arith
       ]
 
-  module _ (r : Passed) (t : Judges s (FaultyAt s (get_or widths f 0) (get_or kinds f 0) (base + i)) r) where
-    pub visit_fails : r.passed ≡ false → Passes s c base i os widths kinds os slots widths kinds r
-    visit_fails h = record {
-      reached = λ z. absurd (true≢false (sym z ∙ h));
-      failed = λ z. record { group = f; faulty = rw here.2 (fault_now s (get_or widths f 0) (get_or kinds f 0) (base + i) here.1 (t.failed z)) };
-      known = t.known;
+  module _ (r : Option Window) (t : Judges s (FaultyAt s (get_or widths f 0) (get_or kinds f 0) (base + i)) r) where
+    pub visit_fails : r ≡ None → (u : Option Window) → u ≡ None → Passes s c base i os widths kinds os slots widths kinds u
+    visit_fails h u e = record {
+      reached = λ v z. absurd (cc);
+      failed = λ z. record { group = f; faulty = rw here.2 (fault_now s (get_or widths f 0) (get_or kinds f 0) (base + i) here.1 (t.failed h)) };
+      known = λ v z. absurd (cc);
     }
 
-    module _ (passed : r.passed ≡ true) where
+    module _ (v : Window) (passed : r ≡ Some v) where
       no_fault : FaultyAt s (get_or widths f 0) (get_or kinds f 0) (base + i) → ⊥
-      no_fault = t.passed passed
+      no_fault = t.passed v passed
 
       member : Member (get_or widths f 0) (get_or kinds f 0)
       member = w.groups.members f pending
@@ -195,35 +196,33 @@ module _ (s : List ℕ) (c : Chains) (ready : Ready s c) (base i : ℕ) (os slot
           pub same_slots : length slots' ≡ length slots
           same_slots = after.holds.long ∙ sym w.holds.long
 
-          pub visited : Passes s c base i os widths kinds os' slots' widths' kinds' r
+          pub visited : Passes s c base i os widths kinds os' slots' widths' kinds' (Some v)
           visited = record {
-            reached = λ z. record {
+            reached = λ u z. record {
               state = record { groups = after.groups; holds = rw same_long after.holds; upto = after.lower (base + i - 1) upto_on; low = w.low };
               alike = then_alike alike_on (after.alike s (omega (arith, ready.end, ready.within)));
             };
-            failed = λ z. absurd (true≢false (sym passed ∙ z));
-            known = t.known;
+            failed = λ z. absurd (cc);
+            known = λ u z. known_same z (t.known v passed);
           }
 
 -- ---- a window
 
 -- the groups at i in a window
-pub record Going (s : List ℕ) (c : Chains) (base i : ℕ) (os₀ widths₀ kinds₀ os slots widths kinds : List ℕ) (r : Passed) : Type 0 where
+pub record Going (s : List ℕ) (c : Chains) (base i : ℕ) (os₀ widths₀ kinds₀ os slots widths kinds : List ℕ) (known_now : Window) : Type 0 where
   pub reached : Reached s c base i os₀ widths₀ kinds₀ os slots widths kinds
   pub low : i ≤ window
-  pub passed : r.passed ≡ true
-  pub known : Known s r.window
+  pub known : Known s known_now
 
 pub going_begun : (s : List ℕ) (c : Chains) (base : ℕ) (os slots widths kinds : List ℕ) (w : Window) → Grouped c base window os slots widths kinds → Known s w
-    → Going s c base window os widths kinds os slots widths kinds (record { passed = true; window = w })
+    → Going s c base window os widths kinds os slots widths kinds w
 going_begun s c base os slots widths kinds w g k = record {
   reached = record { state = g; alike = same_alike s os widths kinds };
   low = omega arith;
-  passed = refl;
   known = k;
 }
 
-module _ (s : List ℕ) (c : Chains) (base i : ℕ) (os₀ widths₀ kinds₀ os slots widths kinds : List ℕ) (r : Passed) (w : Going s c base i os₀ widths₀ kinds₀ os slots widths kinds r) where
+module _ (s : List ℕ) (c : Chains) (base i : ℕ) (os₀ widths₀ kinds₀ os slots widths kinds : List ℕ) (known_now : Window) (w : Going s c base i os₀ widths₀ kinds₀ os slots widths kinds known_now) where
   pub down_asks : Occupied base i os slots
   down_asks = let a = w.reached.state in record { within = w.low; holds = a.holds; upto = a.upto }
 
@@ -249,15 +248,15 @@ module _ (s : List ℕ) (c : Chains) (base i : ℕ) (os₀ widths₀ kinds₀ os
     grouped_at : Grouped c base at os slots widths kinds
     grouped_at = let g = w.reached.state in record { groups = g.groups; holds = g.holds; upto = upto_at; low = g.low }
 
-    pub going_ended : at ≡ 0 → Passes s c base 0 os₀ widths₀ kinds₀ os slots widths kinds r
+    pub going_ended : at ≡ 0 → Passes s c base 0 os₀ widths₀ kinds₀ os slots widths kinds (Some known_now)
     going_ended e = record {
-      reached = λ _. record { state = (rw e at grouped_at); alike = w.reached.alike };
-      failed = λ z. absurd (true≢false (sym w.passed ∙ z));
-      known = w.known;
+      reached = λ _ _. record { state = (rw e at grouped_at); alike = w.reached.alike };
+      failed = λ z. absurd (cc);
+      known = λ u z. known_same z w.known;
     }
 
     module _ (n : at ≡ 0 → ⊥) where
-      pub visit_asks : Grouped c base (at - 1 + 1) os slots widths kinds × (((at - 1 < window) × (get_or slots (at - 1) 0 ≡ 0 → ⊥)) × Known s r.window)
+      pub visit_asks : Grouped c base (at - 1 + 1) os slots widths kinds × (((at - 1 < window) × (get_or slots (at - 1) 0 ≡ 0 → ⊥)) × Known s known_now)
       visit_asks =
           let e : at - 1 + 1 ≡ at = omega arith in
           let u = h.upto in
@@ -267,20 +266,19 @@ module _ (s : List ℕ) (c : Chains) (base i : ℕ) (os₀ widths₀ kinds₀ os
       pub going_less : at - 1 < i
       going_less = let u = h.upto in omega arith
 
-      module _ (os' slots' widths' kinds' : List ℕ) (r' : Passed) (p : Passes s c base (at - 1) os widths kinds os' slots' widths' kinds' r') where
-        pub going_fails : r'.passed ≡ false → Passes s c base 0 os₀ widths₀ kinds₀ os' slots' widths' kinds' r'
-        going_fails h = record {
-          reached = λ z. absurd (true≢false (sym z ∙ h));
-          failed = λ z. w.reached.alike.back (p.failed z);
-          known = p.known;
+      module _ (os' slots' widths' kinds' : List ℕ) (r' : Option Window) (p : Passes s c base (at - 1) os widths kinds os' slots' widths' kinds' r') where
+        pub going_fails : r' ≡ None → (u : Option Window) → u ≡ None → Passes s c base 0 os₀ widths₀ kinds₀ os' slots' widths' kinds' u
+        going_fails h u e = record {
+          reached = λ v z. absurd (cc);
+          failed = λ z. w.reached.alike.back (p.failed h);
+          known = λ v z. absurd (cc);
         }
 
-        pub going_next : r'.passed ≡ true → Going s c base (at - 1) os₀ widths₀ kinds₀ os' slots' widths' kinds' r'
-        going_next q = record {
-          reached = record { state = (p.reached q).state; alike = then_alike w.reached.alike (p.reached q).alike };
+        pub going_next : (v : Window) → r' ≡ Some v → Going s c base (at - 1) os₀ widths₀ kinds₀ os' slots' widths' kinds' v
+        going_next v q = record {
+          reached = record { state = (p.reached v q).state; alike = then_alike w.reached.alike (p.reached v q).alike };
           low = (let u = h.upto in let l = w.low in omega arith);
-          passed = q;
-          known = p.known;
+          known = p.known v q;
         }
 
 -- ---- all windows
@@ -334,13 +332,13 @@ module _ (s : List ℕ) (c : Chains) (ready : Ready s c) (os₀ widths₀ kinds�
         alike_entered : Alike s os₀ widths₀ kinds₀ os' widths' kinds'
         alike_entered = then_alike d.alike (a.alike s (omega (arith, ready.end, ready.within)))
 
-        module _ (os'' slots'' widths'' kinds'' : List ℕ) (r : Passed) (p : Passes s c base 0 os' widths' kinds' os'' slots'' widths'' kinds'' r) where
-          pub decide_fails : r.passed ≡ false → Decides (Faulty s os₀ widths₀ kinds₀) true
+        module _ (os'' slots'' widths'' kinds'' : List ℕ) (r : Option Window) (p : Passes s c base 0 os' widths' kinds' os'' slots'' widths'' kinds'' r) where
+          pub decide_fails : r ≡ None → Decides (Faulty s os₀ widths₀ kinds₀) true
           decide_fails z = record { yes = λ _. alike_entered.back (p.failed z); no = λ q. absurd (true≢false q) }
 
-          module _ (z : r.passed ≡ true) where
+          module _ (v : Window) (z : r ≡ Some v) where
             state : Grouped c base 0 os'' slots'' widths'' kinds''
-            state = (p.reached z).state
+            state = (p.reached v z).state
 
             pub decide_less : high os'' < high os
             decide_less = let u = upto_high os'' (base + 0 - 1) state.upto in omega arith
@@ -360,10 +358,10 @@ module _ (s : List ℕ) (c : Chains) (ready : Ready s c) (os₀ widths₀ kinds�
               ];
             }
 
-            pub decide_next : Deciding s os₀ widths₀ kinds₀ os'' slots'' widths'' kinds'' r.window
+            pub decide_next : Deciding s os₀ widths₀ kinds₀ os'' slots'' widths'' kinds'' v
             decide_next = record {
               groups = state.groups;
               vacant = vacant;
-              alike = then_alike alike_entered (p.reached z).alike;
-              known = p.known;
+              alike = then_alike alike_entered (p.reached v z).alike;
+              known = p.known v z;
             }

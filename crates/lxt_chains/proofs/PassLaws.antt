@@ -29,7 +29,7 @@ use Rattle.lxt_changes.specs.declared.symbols.Checked.{Checked}
 use Rattle.lxt_chains.specs.Reading.{Ready}
 use Rattle.lxt_chains.specs.Groups.{has, width_as, kept_as, others_kept, FaultAs, FaultyAt, Judges}
 use Rattle.lxt_chains.specs.declared.chains.Chains.{Chains}
-use Rattle.lxt_chains.specs.declared.groups.Passed.{Passed}
+use Rattle.std.proofs.Common.{Option, Some, None}
 
 -- ---- texts
 
@@ -137,6 +137,10 @@ none_other s kinds o e = rw e
 
 -- ---- bits
 
+-- the bytes that are known are those that are given
+pub known_same : {s : List ℕ} {w v : Window} → Some w ≡ Some v → Known s w → Known s v
+known_same {w = w} {v = v} z k = let e : w ≡ v = cc in rw (← e) k
+
 module _ (s : List ℕ) (asked : Bool) (kind : Kind) (width o : ℕ) where
   kept_right : kept_as s asked kind width o ≡ true → FaultAs s asked kind width o → ⊥
   unfolding kept_as
@@ -149,34 +153,37 @@ module _ (s : List ℕ) (asked : Bool) (kind : Kind) (width o : ℕ) where
       (λ a. let n : eqb (fault_at s (signal (changes_from s) (end_of s) kind width) o) 0 ≡ false = (rw a at h) in record { for = a; fault = λ z. true≢false (sym (eq-eqb _ 0 z) ∙ n) })
       (λ a. absurd (true≢false (rw a at h)))
 
-  judged : (r : Passed) → r.passed ≡ kept_as s asked kind width o → Known s r.window → Judges s (FaultAs s asked kind width o) r
-  judged r e k = record { passed = λ z. kept_right (sym e ∙ z); failed = λ z. kept_wrong (sym e ∙ z); known = k }
+  passes : true ≡ kept_as s asked kind width o → (w : Window) → Known s w → Judges s (FaultAs s asked kind width o) (Some w)
+  passes e w k = record { passed = λ v z. kept_right (sym e); failed = λ z. absurd (cc); known = λ v z. known_same z k }
+
+  fails : false ≡ kept_as s asked kind width o → Judges s (FaultAs s asked kind width o) None
+  fails e = record { passed = λ v z. absurd (cc); failed = λ z. kept_wrong (sym e); known = λ v z. absurd (cc) }
 
 module _ (s : List ℕ) (c : Chains) (w : Ready s c) (width o : ℕ) (window : Window) (k : Known s window) where
-  pub no_bits : width ≡ 0 → Judges s (FaultAs s (not (eqb width 0)) Bits width o) (record { passed = true; window = window })
-  no_bits e = judged s (not (eqb width 0)) Bits width o _ (not_asked s (not (eqb width 0)) Bits width o (ap not (eq-eqb width 0 e))) k
+  pub no_bits : width ≡ 0 → Judges s (FaultAs s (not (eqb width 0)) Bits width o) (Some window)
+  no_bits e = passes s (not (eqb width 0)) Bits width o (not_asked s (not (eqb width 0)) Bits width o (ap not (eq-eqb width 0 e))) window k
 
   module _ (n : width ≡ 0 → ⊥) (z : Bool) (ez : z ≡ head_kept s c.from c.end Bits o) where
     asked : not (eqb width 0) ≡ true
     asked = ap not (ne_eqb width 0 n)
 
-    pub bits_head : z ≡ false → Judges s (FaultAs s (not (eqb width 0)) Bits width o) (record { passed = false; window = window })
-    bits_head h = judged s (not (eqb width 0)) Bits width o _ (wrong_head s c w (not (eqb width 0)) o asked Bits z ez h width) k
+    pub bits_head : z ≡ false → Judges s (FaultAs s (not (eqb width 0)) Bits width o) None
+    bits_head h = fails s (not (eqb width 0)) Bits width o (wrong_head s c w (not (eqb width 0)) o asked Bits z ez h width)
 
     module _ (hz : z ≡ true) (y : Bool) (ey : y ≡ leb (data_at s o + packed_size (symbol_size (command_of s o)) width) c.end) where
       bits_told : (r : Bool) → r ≡ symbols_kept s c.end width o → r ≡ kept_as s (not (eqb width 0)) Bits width o
       bits_told = symbols_told s c w (not (eqb width 0)) o Bits width (inl refl) asked (sym ez ∙ hz)
 
-      pub bits_far : y ≡ false → Judges s (FaultAs s (not (eqb width 0)) Bits width o) (record { passed = false; window = window })
+      pub bits_far : y ≡ false → Judges s (FaultAs s (not (eqb width 0)) Bits width o) None
       unfolding symbols_kept
-      bits_far h = judged s (not (eqb width 0)) Bits width o _ (bits_told false (rw (← ey, h))) k
+      bits_far h = fails s (not (eqb width 0)) Bits width o (bits_told false (rw (← ey, h)))
 
       module _ (hy : y ≡ true) (b : ℕ) (eb : b ≡ symbol_size (byte_at s o % 16)) where
-        pub bits_few : (b ≡ 4 → ⊥) → Judges s (FaultAs s (not (eqb width 0)) Bits width o) (record { passed = true; window = window })
+        pub bits_few : (b ≡ 4 → ⊥) → Judges s (FaultAs s (not (eqb width 0)) Bits width o) (Some window)
         unfolding symbols_kept command_of
         bits_few q =
             let good = few_bits s (symbol_size (byte_at s o % 16)) width (data_at s o) (symbol_cases (byte_at s o % 16)) (λ e. q (eb ∙ e)) in
-            judged s (not (eqb width 0)) Bits width o _ (bits_told true (rw (← ey, hy, good))) k
+            passes s (not (eqb width 0)) Bits width o (bits_told true (rw (← ey, hy, good))) window k
 
         module _ (four : b ≡ 4) (at : ℕ) (ea : at ≡ data_at s o) where
           pub bits_data : width ≤ widest_facility → Data s 4 width at
@@ -188,11 +195,18 @@ module _ (s : List ℕ) (c : Chains) (w : Ready s c) (width o : ℕ) (window : W
               let m : data_at s o + packed_size 4 width ≤ length s = omega arith in
               record { symbols = inr (inr refl); least = omega arith; most = most; inside = rw ea m }
 
-          pub bits_codes : (r : Checked) → Answered s (codes_allowed s 4 width at) r → Judges s (FaultAs s (not (eqb width 0)) Bits width o) (record { passed = r.allowed; window = r.window })
-          unfolding symbols_kept command_of
-          bits_codes r a =
-              let e : symbol_size (byte_at s o % 16) ≡ 4 = sym eb ∙ four in
-              judged s (not (eqb width 0)) Bits width o _ (bits_told r.allowed (a.answer ∙ rw (← ey, hy, e, ea))) a.known
+          module _ (r : Checked) (a : Answered s (codes_allowed s 4 width at) r) where
+            codes_told : r.allowed ≡ kept_as s (not (eqb width 0)) Bits width o
+            unfolding symbols_kept command_of
+            codes_told =
+                let e : symbol_size (byte_at s o % 16) ≡ 4 = sym eb ∙ four in
+                bits_told r.allowed (a.answer ∙ rw (← ey, hy, e, ea))
+
+            pub wrong_codes : r.allowed ≡ false → Judges s (FaultAs s (not (eqb width 0)) Bits width o) None
+            wrong_codes h = fails s (not (eqb width 0)) Bits width o (sym h ∙ codes_told)
+
+            pub good_codes : r.allowed ≡ true → Judges s (FaultAs s (not (eqb width 0)) Bits width o) (Some r.window)
+            good_codes h = passes s (not (eqb width 0)) Bits width o (sym h ∙ codes_told) r.window a.known
 
 -- ---- all kinds of a group
 
@@ -216,20 +230,20 @@ module _ (s : List ℕ) (width kinds o : ℕ) (others : Bool) (eo : others ≡ o
       (λ b. record { kind = Real; faulty = kept_wrong s (eqb (kinds / 2 % 2) 1) Real 0 o b }))
       (λ a. record { kind = Integer; faulty = kept_wrong s (eqb (kinds % 2) 1) Integer 32 o a })
 
-  pub others_fail : others ≡ false → (w : Window) → Known s w → Judges s (FaultyAt s width kinds o) (record { passed = false; window = w })
-  others_fail h w k = record { passed = λ z. absurd (false≢true z); failed = λ _. wrong_others h; known = k }
+  pub others_fail : others ≡ false → Judges s (FaultyAt s width kinds o) None
+  others_fail h = record { passed = λ v z. absurd (cc); failed = λ _. wrong_others h; known = λ v z. absurd (cc) }
 
-  module _ (h : others ≡ true) (r : Passed) (j : Judges s (FaultAs s (not (eqb width 0)) Bits width o) r) where
-    none_fails : r.passed ≡ true → (kind : Kind) → FaultAs s (has width kinds kind) kind (width_as width kind) o → ⊥
+  module _ (h : others ≡ true) (r : Option Window) (j : Judges s (FaultAs s (not (eqb width 0)) Bits width o) r) where
+    none_fails : (v : Window) → r ≡ Some v → (kind : Kind) → FaultAs s (has width kinds kind) kind (width_as width kind) o → ⊥
     unfolding has width_as
-    none_fails p Bits = j.passed p
-    none_fails p Integer = kept_right s (eqb (kinds % 2) 1) Integer 32 o (parts h).0
-    none_fails p Real = kept_right s (eqb (kinds / 2 % 2) 1) Real 0 o (parts h).1.0
-    none_fails p Text = kept_right s (eqb (kinds / 4 % 2) 1) Text 0 o (parts h).1.1
+    none_fails v p Bits = j.passed v p
+    none_fails v p Integer = kept_right s (eqb (kinds % 2) 1) Integer 32 o (parts h).0
+    none_fails v p Real = kept_right s (eqb (kinds / 2 % 2) 1) Real 0 o (parts h).1.0
+    none_fails v p Text = kept_right s (eqb (kinds / 4 % 2) 1) Text 0 o (parts h).1.1
 
-    bits_fail : r.passed ≡ false → FaultyAt s width kinds o
+    bits_fail : r ≡ None → FaultyAt s width kinds o
     unfolding has width_as
     bits_fail p = record { kind = Bits; faulty = j.failed p }
 
     pub bits_decide : Judges s (FaultyAt s width kinds o) r
-    bits_decide = record { passed = λ p q. none_fails p q.kind q.faulty; failed = bits_fail; known = j.known }
+    bits_decide = record { passed = λ v p q. none_fails v p q.kind q.faulty; failed = bits_fail; known = j.known }

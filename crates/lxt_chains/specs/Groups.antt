@@ -1,6 +1,6 @@
 -- Groups of roots that are on one chain from some offset on. A change that is a fault for bits of one width is a fault for every greater one, so
 -- a group is tested by the greatest width of its bits, and once for each other kind.
-use Rattle.std.specs.Prelude.{ℕ, suc, ◌+◌, ◌-◌, ◌*◌, ◌/◌, ◌%◌, ◌≤◌, ◌<◌, max, ◌≡◌, Bool, true, false, not, ◌&&◌, ◌||◌, List, length, get_or, set, eqb}
+use Rattle.std.specs.Prelude.{ℕ, suc, ◌+◌, ◌-◌, ◌*◌, ◌/◌, ◌%◌, ◌≤◌, ◌<◌, max, ◌≡◌, Bool, true, false, not, ◌&&◌, ◌||◌, List, length, get_or, set, eqb, Option, Some, None}
 use Rattle.lxt_format.specs.Limits.{most_facilities, widest_facility}
 use Rattle.lxt_format.specs.Sections.{changes_from, end_of}
 use Rattle.lxt_format.specs.Geometry.{is_alias, own_facts}
@@ -9,9 +9,9 @@ use Rattle.lxt_format.specs.Judge.{fault_from}
 use Rattle.lxt_format.specs.declared.Kind.{Kind}
 use Rattle.lxt_format.specs.declared.Kind.TheVariants.{Bits, Integer, Real, Text}
 use Rattle.lxt_changes.specs.Windows.{Known}
+use Rattle.lxt_changes.specs.declared.symbols.Window.{Window}
 use Rattle.lxt_chains.specs.Windows.{window, Inside, Holds, Upto}
 use Rattle.lxt_chains.specs.declared.chains.Chains.{Chains}
-use Rattle.lxt_chains.specs.declared.groups.Passed.{Passed}
 
 -- ---- the kinds of a group: the greatest width of its bits, 0 where it has none; and the sum of 1 for integers, 2 for reals and 4 for texts
 
@@ -85,10 +85,10 @@ pub record Decides (P : Type 0) (r : Bool) : Type 0 where
   pub no : r ≡ false → P → ⊥
 
 -- what was found of a change: it passes exactly where it is no fault; and the bytes that are known to be good after that
-pub record Judges (s : List ℕ) (P : Type 0) (r : Passed) : Type 0 where
-  pub passed : r.passed ≡ true → P → ⊥
-  pub failed : r.passed ≡ false → P
-  pub known : Known s r.window
+pub record Judges (s : List ℕ) (P : Type 0) (r : Option Window) : Type 0 where
+  pub passed : (w : Window) → r ≡ Some w → P → ⊥
+  pub failed : r ≡ None → P
+  pub known : (w : Window) → r ≡ Some w → Known s w
 
 -- a kind of a group
 pub record Member (width kinds : ℕ) : Type 0 where
@@ -152,10 +152,10 @@ pub record Reached (s : List ℕ) (c : Chains) (base i : ℕ) (os₀ widths₀ k
   pub alike : Alike s os₀ widths₀ kinds₀ os widths kinds
 
 -- what a part of the pass leaves: that, or a fault
-pub record Passes (s : List ℕ) (c : Chains) (base i : ℕ) (os₀ widths₀ kinds₀ os slots widths kinds : List ℕ) (r : Passed) : Type 0 where
-  pub reached : r.passed ≡ true → Reached s c base i os₀ widths₀ kinds₀ os slots widths kinds
-  pub failed : r.passed ≡ false → Faulty s os₀ widths₀ kinds₀
-  pub known : Known s r.window
+pub record Passes (s : List ℕ) (c : Chains) (base i : ℕ) (os₀ widths₀ kinds₀ os slots widths kinds : List ℕ) (r : Option Window) : Type 0 where
+  pub reached : (w : Window) → r ≡ Some w → Reached s c base i os₀ widths₀ kinds₀ os slots widths kinds
+  pub failed : r ≡ None → Faulty s os₀ widths₀ kinds₀
+  pub known : (w : Window) → r ≡ Some w → Known s w
 
 -- room for the kinds and widths of groups
 pub record Room (os widths kinds : List ℕ) : Type 0 where

@@ -20,13 +20,6 @@ use lxt_tables::geometry;
 // As many groups as there are facilities in any file.
 pub const MOST: usize = Summary::MOST_FACILITIES as usize;
 
-// Whether there is no fault, and the bytes of good codes that are known after that was found.
-#[derive(Clone, Copy)]
-pub struct Passed {
-    pub passed: bool,
-    pub window: Window,
-}
-
 // The change at `o` has no fault as one of an integer, if that is asked. None of its commands has codes of 4
 // bits.
 fn integer_passes(file: &[u8], c: Chains, asked: bool, o: usize) -> bool
@@ -81,44 +74,33 @@ fn others_pass(file: &[u8], c: Chains, kinds: u8, o: usize) -> bool
         && text_passes(file, c, kinds / 4 % 2 == 1, o)
 }
 
-// The change at `o` has no fault as one of bits, if there are any. Only codes of 4 bits can be wrong.
-fn bits_pass(file: &[u8], c: Chains, width: u32, o: usize, w: Window) -> Passed
+// The change at `o` has no fault as one of bits, if there are any. Only codes of 4 bits can be wrong. Where it has none,
+// the bytes of good codes that are known after that.
+fn bits_pass(file: &[u8], c: Chains, width: u32, o: usize, w: Window) -> Option<Window>
     requires { Ready file.now c × (Known file.now w × (width ≤ widest_facility)) }
     ensures { Judges file.now (FaultAs file.now (not (eqb width 0)) Kind.Bits width o) result }
 {
     if width == 0 {
-        return Passed {
-            passed: true,
-            window: w,
-        };
+        return Some(w);
     }
     if !keep::head_keeps(file, c.from, c.end, Kind::Bits, o) {
-        return Passed {
-            passed: false,
-            window: w,
-        };
+        return None;
     }
     if !keep::symbols_fit(file, c.end, width, o) {
-        return Passed {
-            passed: false,
-            window: w,
-        };
+        return None;
     }
     if symbols::size_of(file[o]) != 4 {
-        return Passed {
-            passed: true,
-            window: w,
-        };
+        return Some(w);
     }
     let checked = symbols::codes_allowed(file, 4, width, delta::data_at(file, o), w);
-    Passed {
-        passed: checked.allowed,
-        window: checked.window,
+    if !checked.allowed {
+        return None;
     }
+    Some(checked.window)
 }
 
 // The change at `o` has no fault for any kind of a group. Most groups are of bits alone.
-fn passes(file: &[u8], c: Chains, width: u32, kinds: u8, o: usize, w: Window) -> Passed
+fn passes(file: &[u8], c: Chains, width: u32, kinds: u8, o: usize, w: Window) -> Option<Window>
     requires { Ready file.now c × (Known file.now w × (width ≤ widest_facility)) }
     ensures { Judges file.now (FaultyAt file.now width kinds o) result }
 {
@@ -126,10 +108,7 @@ fn passes(file: &[u8], c: Chains, width: u32, kinds: u8, o: usize, w: Window) ->
         return bits_pass(file, c, width, o, w);
     }
     if !others_pass(file, c, kinds, o) {
-        return Passed {
-            passed: false,
-            window: w,
-        };
+        return None;
     }
     bits_pass(file, c, width, o, w)
 }
@@ -195,20 +174,17 @@ fn visit(
     base: usize,
     i: usize,
     w: Window,
-) -> Passed
+) -> Option<Window>
     requires { Ready file.now c × (Grouped c base (i + 1) pending.old slots.old widths.old kinds.old × (((i < window) × (get_or slots.old i 0 ≡ 0 → ⊥)) × Known file.now w)) }
     ensures { Passes file.now c base i pending.old widths.old kinds.old pending.new slots.new widths.new kinds.new result }
 {
     let f = slots[i] as usize - 1;
     let o = base + i;
-    let tested = passes(file, c, widths[f] as u32, kinds[f], o, w);
-    if !tested.passed {
-        return tested;
-    }
+    let known = passes(file, c, widths[f] as u32, kinds[f], o, w)?;
     pending[f] = delta::previous(file, o) as u32;
     slots[i] = 0;
     settle(pending, slots, widths, kinds, base, f);
-    tested
+    Some(known)
 }
 
 // Tests the changes of a window, by falling offset.
@@ -221,35 +197,19 @@ fn decide_window(
     kinds: &mut [u8],
     base: usize,
     w: Window,
-) -> Passed
+) -> Option<Window>
     requires { Ready file.now c × (Grouped c base window pending.old slots.old widths.old kinds.old × Known file.now w) }
     ensures { Passes file.now c base 0 pending.old widths.old kinds.old pending.new slots.new widths.new kinds.new result }
 {
     let mut i = WINDOW;
-    let mut so_far = Passed {
-        passed: true,
-        window: w,
-    };
+    let mut known = w;
     loop {
         let at = window::down(pending, slots, base, i);
         if at == 0 {
-            return so_far;
+            return Some(known);
         }
         i = at - 1;
-        so_far = visit(
-            file,
-            c,
-            pending,
-            slots,
-            widths,
-            kinds,
-            base,
-            i,
-            so_far.window,
-        );
-        if !so_far.passed {
-            return so_far;
-        }
+        known = visit(file, c, pending, slots, widths, kinds, base, i, known)?;
     }
 }
 
@@ -276,11 +236,10 @@ fn decide(
         }
         let base = high - high % WINDOW;
         settle_all(pending, slots, widths, kinds, base);
-        let tested = decide_window(file, c, pending, slots, widths, kinds, base, w);
-        if !tested.passed {
+        let Some(known) = decide_window(file, c, pending, slots, widths, kinds, base, w) else {
             return true;
-        }
-        w = tested.window;
+        };
+        w = known;
     }
 }
 

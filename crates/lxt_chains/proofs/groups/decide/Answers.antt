@@ -1,7 +1,6 @@
 use mathlib.Core.Path.{◌≡◌}
 use lib.ListN.{length}
 use native.Mathlib.Omega.{arith}
-use borrow.Author.Tests.{not-true, not-false}
 use Rattle.lxt_chains.proofs.GroupLawsPass.{deciding_begun, decide_none, decide_late, enter_all_asks, window_asks, decide_fails, decide_less, decide_next}
 use borrow.Author.Rules.{rules}
 use Rattle.lxt_chains.proofs.groups.decide.Goals as goal
@@ -42,26 +41,26 @@ returns-then-c-high c = decide_late _ _ c.requires.0 _ _ _ _ _ _ _ _ c.loop-c.in
 pub settle_all-requires : goal.settle_all-requires
 settle_all-requires c = enter_all_asks _ _ c.requires.0 _ _ _ _ _ _ _ _ c.loop-c.invariant _ c.highest-high.ensures c.if-high-eq0.false c.if-c-high.false
 
-pub decide_window-tested-requires : goal.decide_window-tested-requires
-decide_window-tested-requires c = (c.requires.0, window_asks _ _ c.requires.0 _ _ _ _ _ _ _ _ c.loop-c.invariant _ c.highest-high.ensures c.if-high-eq0.false c.if-c-high.false _ _ _ _ c.settle_all.ensures)
+pub decide_window-requires : goal.decide_window-requires
+decide_window-requires c = (c.requires.0, window_asks _ _ c.requires.0 _ _ _ _ _ _ _ _ c.loop-c.invariant _ c.highest-high.ensures c.if-high-eq0.false c.if-c-high.false _ _ _ _ c.settle_all.ensures)
 
-pub shape_of-pending-then-not-tested : goal.shape_of-pending-then-not-tested
-shape_of-pending-then-not-tested c = let e : length c.loop-c.pending ≡ length c.args.pending.now = c.loop-c.invariant.alike.long in search rules
+pub shape_of-pending-in_default : goal.shape_of-pending-in_default
+shape_of-pending-in_default c = let e : length c.loop-c.pending ≡ length c.args.pending.now = c.loop-c.invariant.alike.long in search rules
 
-pub shape_of-slots-then-not-tested : goal.shape_of-slots-then-not-tested
-shape_of-slots-then-not-tested c = let e : length c.loop-c.slots ≡ length c.args.slots.now = omega (arith, c.loop-c.invariant.vacant.long, c.requires.1.1.long) in search rules
+pub shape_of-slots-in_default : goal.shape_of-slots-in_default
+shape_of-slots-in_default c = let e : length c.loop-c.slots ≡ length c.args.slots.now = omega (arith, c.loop-c.invariant.vacant.long, c.requires.1.1.long) in search rules
 
-pub shape_of-widths-then-not-tested : goal.shape_of-widths-then-not-tested
-shape_of-widths-then-not-tested c = let e : length c.loop-c.widths ≡ length c.args.widths.now = omega (arith, c.loop-c.invariant.alike.long, c.loop-c.invariant.groups.widths_long, c.requires.1.0.widths_long) in search rules
+pub shape_of-widths-in_default : goal.shape_of-widths-in_default
+shape_of-widths-in_default c = let e : length c.loop-c.widths ≡ length c.args.widths.now = omega (arith, c.loop-c.invariant.alike.long, c.loop-c.invariant.groups.widths_long, c.requires.1.0.widths_long) in search rules
 
-pub shape_of-kinds-then-not-tested : goal.shape_of-kinds-then-not-tested
-shape_of-kinds-then-not-tested c = let e : length c.loop-c.kinds ≡ length c.args.kinds.now = omega (arith, c.loop-c.invariant.alike.long, c.loop-c.invariant.groups.kinds_long, c.requires.1.0.kinds_long) in search rules
+pub shape_of-kinds-in_default : goal.shape_of-kinds-in_default
+shape_of-kinds-in_default c = let e : length c.loop-c.kinds ≡ length c.args.kinds.now = omega (arith, c.loop-c.invariant.alike.long, c.loop-c.invariant.groups.kinds_long, c.requires.1.0.kinds_long) in search rules
 
-pub returns-then-not-tested : goal.returns-then-not-tested
-returns-then-not-tested c = decide_fails _ _ c.requires.0 _ _ _ _ _ _ _ _ c.loop-c.invariant _ c.highest-high.ensures c.if-high-eq0.false c.if-c-high.false _ _ _ _ c.settle_all.ensures _ _ _ _ _ c.decide_window-tested.ensures (not-true _ c.if-not-tested.true)
+pub returns-in_default : goal.returns-in_default
+returns-in_default c = decide_fails _ _ c.requires.0 _ _ _ _ _ _ _ _ c.loop-c.invariant _ c.highest-high.ensures c.if-high-eq0.false c.if-c-high.false _ _ _ _ c.settle_all.ensures _ _ _ _ _ c.decide_window.ensures c.in_default.is
 
 pub loop-c-smaller : goal.loop-c-smaller
-loop-c-smaller c = decide_less _ _ c.requires.0 _ _ _ _ _ _ _ _ c.loop-c.invariant _ c.highest-high.ensures c.if-high-eq0.false c.if-c-high.false _ _ _ _ c.settle_all.ensures _ _ _ _ _ c.decide_window-tested.ensures (not-false _ c.if-not-tested.false)
+loop-c-smaller c = decide_less _ _ c.requires.0 _ _ _ _ _ _ _ _ c.loop-c.invariant _ c.highest-high.ensures c.if-high-eq0.false c.if-c-high.false _ _ _ _ c.settle_all.ensures _ _ _ _ _ c.decide_window.ensures _ c.in-Some.is
 
 pub loop-c-preserved : goal.loop-c-preserved
-loop-c-preserved c = decide_next _ _ c.requires.0 _ _ _ _ _ _ _ _ c.loop-c.invariant _ c.highest-high.ensures c.if-high-eq0.false c.if-c-high.false _ _ _ _ c.settle_all.ensures _ _ _ _ _ c.decide_window-tested.ensures (not-false _ c.if-not-tested.false)
+loop-c-preserved c = decide_next _ _ c.requires.0 _ _ _ _ _ _ _ _ c.loop-c.invariant _ c.highest-high.ensures c.if-high-eq0.false c.if-c-high.false _ _ _ _ c.settle_all.ensures _ _ _ _ _ c.decide_window.ensures _ c.in-Some.is
