@@ -1,5 +1,5 @@
 -- Checks 15, 16 and 17 together, over changes by falling offset.
-use Rattle.std.specs.Prelude.{ℕ, ◌+◌, ◌-◌, ◌≤◌, ◌<◌, ◌≡◌, Bool, true, false, ◌&&◌, List, [], ◌∷◌, length, get_or, leb, eqb}
+use Rattle.std.specs.Prelude.{ℕ, ◌+◌, ◌-◌, ◌≤◌, ◌<◌, ◌≡◌, Bool, true, false, ◌&&◌, List, [], ◌∷◌, length, get_or, leb, eqb, Option, Some, None}
 use Rattle.lxt_format.specs.Basics.{Answer, answer, all}
 use Rattle.lxt_format.specs.Sections.{end_of}
 use Rattle.lxt_format.specs.Geometry.{is_alias, own_facts}
@@ -80,12 +80,16 @@ pub record Same (s parts os₀ : List ℕ) (bound₀ : ℕ) (clean₀ : Bool) (f
   pub cleans : (clean && cleanly s (left s os)) ≡ (clean₀ && cleanly s (left s os₀))
   pub frees : free + free_around s parts bound (left s os) ≡ free₀ + free_around s parts bound₀ (left s os₀)
 
--- what a part of the sweep leaves: all below i is still pending and all above it kept the rules, or a rule is broken
-pub record Went (s : List ℕ) (c : Chains) (parts : List ℕ) (base i : ℕ) (widths kinds os₀ : List ℕ) (bound₀ : ℕ) (clean₀ : Bool) (free₀ : ℕ) (os slots : List ℕ) (r : Swept) : Type 0 where
-  pub state : r.kept ≡ true → Sweeping s c base i widths kinds os slots
-  pub same : r.kept ≡ true → Same s parts os₀ bound₀ clean₀ free₀ os r.bound r.clean r.free
-  pub bounded : r.kept ≡ true → r.free + r.bound ≤ c.end
-  pub broken : r.kept ≡ false → fitting s bound₀ (left s os₀) ≡ false
+-- what a part of the sweep leaves where it kept the rules: all below i is still pending and all above it was counted
+pub record Gone (s : List ℕ) (c : Chains) (parts : List ℕ) (base i : ℕ) (widths kinds os₀ : List ℕ) (bound₀ : ℕ) (clean₀ : Bool) (free₀ : ℕ) (os slots : List ℕ) (n : Swept) : Type 0 where
+  pub state : Sweeping s c base i widths kinds os slots
+  pub same : Same s parts os₀ bound₀ clean₀ free₀ os n.bound n.clean n.free
+  pub bounded : n.free + n.bound ≤ c.end
+
+-- that, or a rule is broken
+pub record Went (s : List ℕ) (c : Chains) (parts : List ℕ) (base i : ℕ) (widths kinds os₀ : List ℕ) (bound₀ : ℕ) (clean₀ : Bool) (free₀ : ℕ) (os slots : List ℕ) (r : Option Swept) : Type 0 where
+  pub gone : (n : Swept) → r ≡ Some n → Gone s c parts base i widths kinds os₀ bound₀ clean₀ free₀ os slots n
+  pub broken : r ≡ None → fitting s bound₀ (left s os₀) ≡ false
 
 -- what the whole sweep found
 pub record SweptAll (s parts os : List ℕ) (r : Totals) : Type 0 where
