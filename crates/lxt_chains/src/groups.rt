@@ -180,7 +180,7 @@ fn visit(
 {
     let f = slots[i] as usize - 1;
     let o = base + i;
-    let known = passes(file, c, widths[f] as u32, kinds[f], o, w)?;
+    let known = passes(file, c, u32::from(widths[f]), kinds[f], o, w)?;
     pending[f] = delta::previous(file, o) as u32;
     slots[i] = 0;
     settle(pending, slots, widths, kinds, base, f);
