@@ -5,7 +5,8 @@ use native.Mathlib.Omega.{arith}
 use native.Mathlib.Nat.{add-zero}
 use native.Mathlib.Decide.{ℕ_discrete}
 use mathlib.Core.Path.{◌≡◌, refl, sym, ap, ◌∙◌}
-use mathlib.Core.Bool.{true, false, true≢false, false≢true}
+use mathlib.Core.Bool.{true}
+use Rattle.std.proofs.Common.{◌⊎◌, inl, inr}
 use mathlib.Core.List.{List, [], ◌∷◌, ◌++◌, map}
 use lib.ListN.{length, get_or, take, set, length-append}
 use lib.Seq.{slice, length-slice, get_or-take, get_or-drop, set-get_or, get_or-set_other}
@@ -15,7 +16,6 @@ use Rattle.lxt_format.specs.Basics.{all}
 use Rattle.lxt_format.specs.BasicsLaws.{and_both, both_and, all_at}
 use Rattle.lxt_format.specs.Buffers.{placed, length_placed, placed_none, placed_more}
 use Rattle.lxt_format.specs.Changes.{symbol_size, packed_size}
-use Rattle.lxt_format.specs.Reals.{is_real}
 use Rattle.lxt_format.specs.declared.Kind.{Kind}
 use Rattle.lxt_format.specs.declared.Kind.TheVariants.{Bits, Integer, Real, Text}
 use Rattle.lxt_written.specs.Stands.{length_big_endian}
@@ -24,7 +24,7 @@ use Rattle.lxt_written.specs.Writing.{is_symbol, is_bit, value_allowed}
 use Rattle.lxt_written.specs.CommandLaws.{code_small, length_change, length_packed, value_symbols, value_length, command_bound, command_holds, held_codes}
 use Rattle.lxt_format.specs.UnpackLaws.{Size}
 use Rattle.lxt_pack.specs.Symbols.{Packing}
-use Rattle.lxt_pack.specs.Change.{head_of, Scales, HeadAsked, Held, is_text, Sound, Puts}
+use Rattle.lxt_pack.specs.Change.{head_of, Scales, HeadAsked, Held, Sound, Puts}
 use Rattle.lxt_pack.proofs.PutLaws.{stored_two, stored_three, stored_four}
 use Rattle.lxt_pack.proofs.SizeLaws.{one_small, two_small, bits_symbols, integer_command}
 
@@ -321,39 +321,13 @@ module _ (v : List ℕ) (start end delta : ℕ) (out : List ℕ) (at : ℕ) (s :
 
 -- ---- by the kind
 
-pub sound_of : (kind k : Kind) (v : List ℕ) (start end delta : ℕ) (out : List ℕ) (at : ℕ) → kind ≡ k → Sound kind v start end delta out at → Sound k v start end delta out at
-sound_of kind k v start end delta out at e s = rw e at s
-
-pub puts_of : (kind k : Kind) (value : List ℕ) (delta : ℕ) (out : List ℕ) (at : ℕ) (two : List ℕ) (r : ℕ) → kind ≡ k → Puts k value delta out at two r → Puts kind value delta out at two r
-puts_of kind k value delta out at two r e p = rw e p
-
-pub real_is : (kind : Kind) → is_real kind ≡ true → kind ≡ Real
-unfolding is_real
-real_is Bits e = absurd (false≢true e)
-real_is Integer e = absurd (false≢true e)
-real_is Real e = refl
-real_is Text e = absurd (false≢true e)
-
-pub text_is : (kind : Kind) → is_text kind ≡ true → kind ≡ Text
-unfolding is_text
-text_is Bits e = absurd (false≢true e)
-text_is Integer e = absurd (false≢true e)
-text_is Real e = absurd (false≢true e)
-text_is Text e = refl
-
--- the other two have symbols
-pub by_kind_sound : (kind : Kind) (v : List ℕ) (start end delta : ℕ) (out : List ℕ) (at : ℕ) → is_real kind ≡ false → is_text kind ≡ false
+-- bits and integers have symbols
+pub by_kind_sound : (kind : Kind) (v : List ℕ) (start end delta : ℕ) (out : List ℕ) (at : ℕ) → (kind ≡ Bits) ⊎ (kind ≡ Integer)
     → Sound kind v start end delta out at → Sound Bits v start end delta out at
-unfolding is_real is_text
-by_kind_sound Bits v start end delta out at a b s = s
-by_kind_sound Integer v start end delta out at a b s = integer_sound v start end delta out at s
-by_kind_sound Real v start end delta out at a b s = absurd (true≢false a)
-by_kind_sound Text v start end delta out at a b s = absurd (true≢false b)
+by_kind_sound kind v start end delta out at (inl e) s = rw e at s
+by_kind_sound kind v start end delta out at (inr e) s = integer_sound v start end delta out at (rw e at s)
 
-pub by_kind_put : (kind : Kind) (v : List ℕ) (start end delta : ℕ) (out : List ℕ) (at : ℕ) → is_real kind ≡ false → is_text kind ≡ false
+pub by_kind_put : (kind : Kind) (v : List ℕ) (start end delta : ℕ) (out : List ℕ) (at : ℕ) → (kind ≡ Bits) ⊎ (kind ≡ Integer)
     → Sound kind v start end delta out at → (two : List ℕ) (r : ℕ) → Puts Bits (slice start end v) delta out at two r → Puts kind (slice start end v) delta out at two r
-unfolding is_real is_text
-by_kind_put Bits v start end delta out at a b s two r p = p
-by_kind_put Integer v start end delta out at a b s two r p = integer_put v start end delta out at s two r p
-by_kind_put Real v start end delta out at a b s two r p = absurd (true≢false a)
-by_kind_put Text v start end delta out at a b s two r p = absurd (true≢false b)
+by_kind_put kind v start end delta out at (inl e) s two r p = rw e p
+by_kind_put kind v start end delta out at (inr e) s two r p = rw e (integer_put v start end delta out at (rw e at s) two r p)

@@ -1,5 +1,5 @@
 -- Laws of symbols that are packed into bytes.
-use Rattle.std.specs.Prelude.{if◌then◌else◌}
+use mir.Val.{bool_byte}
 use Prim.Native.Nat.{ℕ, zero, suc, ◌+◌, ◌*◌, ◌-◌, ◌/◌, ◌%◌, ◌^◌, ◌≤◌, ◌<◌}
 use native.Mathlib.Nat.{add-zero, add-mul, mul_assoc, mul_comm, mul-suc, mul-zero, mul-le-mul, le_refl}
 use native.Mathlib.Omega.{arith}
@@ -36,12 +36,12 @@ four_coded b h k =
     or_either (leb 4 (code_of b)) (eqb (b * 107 / 64 % 4) (code_of b)) e (λ q. let l = leb-true 4 (code_of b) q in absurd (omega arith)) (λ q. eqb-true _ _ q)
 
 -- all symbols, by tests one after the other
-abbrev picked : ℕ → ℕ → ℕ → ℕ
-picked b symbol code = if eqb b symbol then code else 0
+abbrev picked : ℕ → ℕ → ℕ
+picked b symbol = bool_byte (eqb b symbol)
 
 abbrev code_sum : ℕ → ℕ
 code_sum b =
-    picked b 0x31 1 + picked b 0x5A 2 + picked b 0x58 3 + (picked b 0x48 4 + picked b 0x55 5) + (picked b 0x57 6 + picked b 0x4C 7) + picked b 0x2D 8
+    picked b 0x31 + 2 * picked b 0x5A + 3 * picked b 0x58 + (4 * picked b 0x48 + 5 * picked b 0x55) + (6 * picked b 0x57 + 7 * picked b 0x4C) + 8 * picked b 0x2D
 
 nine_codes : all (λ b. (leb 9 (code_of b) || eqb (code_sum b) (code_of b)) && ltb (code_sum b) 16) (range 0 256) ≡ true
 unfolding all range code_of place_of
@@ -55,9 +55,9 @@ nine_coded b h =
       ltb-true (code_sum b) 16 both.1,
     )
 
-pub code_sum_lem : (b : ℕ) → b < 256 → (c d e f g h i j : ℕ) → c ≡ picked b 0x31 1 → d ≡ picked b 0x5A 2 → e ≡ picked b 0x58 3 → f ≡ picked b 0x48 4 → g ≡ picked b 0x55 5
-    → h ≡ picked b 0x57 6 → i ≡ picked b 0x4C 7 → j ≡ picked b 0x2D 8
-    → Coded b 9 (c + d + e + (f + g) + (h + i) + j) × (c + d + e + (f + g) + (h + i) + j < 16)
+pub code_sum_lem : (b : ℕ) → b < 256 → (c d e f g h i j : ℕ) → c ≡ picked b 0x31 → d ≡ picked b 0x5A → e ≡ picked b 0x58 → f ≡ picked b 0x48 → g ≡ picked b 0x55
+    → h ≡ picked b 0x57 → i ≡ picked b 0x4C → j ≡ picked b 0x2D
+    → Coded b 9 (c + 2 * d + 3 * e + (4 * f + 5 * g) + (6 * h + 7 * i) + 8 * j) × (c + 2 * d + 3 * e + (4 * f + 5 * g) + (6 * h + 7 * i) + 8 * j < 16)
 code_sum_lem b k c d e f g h i j ec ed ee ef eg eh ei ej = rw (ec, ed, ee, ef, eg, eh, ei, ej) (nine_coded b k)
 
 -- a byte whose code is 0 or 1 is '0' or '1'
@@ -461,8 +461,10 @@ module _ (v : List ℕ) (start end b : ℕ) (out : List ℕ) (at : ℕ) (k : Pac
 
 -- ---- how many codes there are of b bits
 
-pub base_is : (b k : ℕ) → b ≡ k → 2 ^ k ≤ 16 → (2 ^ k ≡ 2 ^ b) × (2 ^ k ≤ 16)
-base_is b k e h = (rw e, h)
+pub base_is : (b : ℕ) → Size b → (1 * 2 ^ b % 4294967296 ≡ 2 ^ b) × (1 * 2 ^ b % 4294967296 ≤ 16)
+base_is b Size.one = (refl, lit≤ tt)
+base_is b Size.two = (refl, lit≤ tt)
+base_is b Size.four = (refl, lit≤ tt)
 
 pub small_product : (sum base : ℕ) → sum < 256 → base ≤ 16 → sum * base ≤ 4080
 small_product sum base h k = let l : sum ≤ 255 = omega arith in mul-le-mul l k

@@ -1,47 +1,32 @@
 -- Laws of a part of a pool of bytes.
-use Prim.Native.Nat.{ℕ, ◌+◌, ◌≤◌, ◌<◌}
+use Rattle.std.specs.List.{list_any}
+use Prim.Native.Nat.{ℕ, ◌+◌, ◌-◌, ◌≤◌}
 use native.Mathlib.Omega.{arith}
-use native.Mathlib.Numerals.{add-one}
 use mathlib.Core.Path.{◌≡◌, refl, sym, ap, ◌∙◌}
-use mathlib.Core.Bool.{Bool, true, false, not, ◌&&◌}
-use mathlib.Core.List.{List}
-use lib.ListN.{length, get_or}
-use lib.Seq.{slice, slice-cons, slice_empty}
+use mathlib.Core.Bool.{Bool, true, false, not, ◌&&◌, ◌||◌}
+use mathlib.Core.List.{List, [], ◌∷◌}
+use lib.ListN.{length, take, drop}
+use lib.Seq.{slice, take-add, drop_at, length-take-le}
 use lib.Dec.{eqb}
 use Rattle.lxt_format.specs.Basics.{all}
 use Rattle.lxt_written.specs.Writing.{no_zero}
 
--- whether the bytes before i are not 0, and what is left, give the whole
-pub record Scanning (pool : List ℕ) (start end : ℕ) (none : Bool) (i : ℕ) : Type 0 where
-  pub left : (none && no_zero (slice i end pool)) ≡ no_zero (slice start end pool)
-  pub upto : i ≤ end
+not_or : (a b : Bool) → not (a || b) ≡ (not a && not b)
+not_or true b = refl
+not_or false b = refl
 
-and_assoc : (a b c : Bool) → ((a && b) && c) ≡ (a && (b && c))
-and_assoc true b c = refl
-and_assoc false b c = refl
+-- a part without a 0
+pub none_zero : (l : List ℕ) → not (list_any (λ b. eqb b 0) l) ≡ no_zero l
+unfolding no_zero all
+none_zero [] = refl
+none_zero (b ∷ l) = not_or (eqb b 0) (list_any (λ c. eqb c 0) l) ∙ ap (λ r. not (eqb b 0) && r) (none_zero l)
 
-and_true : (a : Bool) → (a && true) ≡ a
-and_true true = refl
-and_true false = refl
+part_from : (s : List ℕ) (start size : ℕ) → start ≤ length s → take size (drop start s) ≡ slice start (start + size) s
+part_from s start size h =
+    rw (take-add start size s) (sym (drop_at (take start s) (take size (drop start s)) start (length-take-le start s h)))
 
-module _ (pool : List ℕ) (start end : ℕ) where
-  pub scan_begun : start ≤ end → Scanning pool start end true start
-  scan_begun h = record { left = refl; upto = h }
-
-  pub scan_turn : (none : Bool) (i : ℕ) → Scanning pool start end none i → end ≤ length pool → i < end → (b : ℕ) → b ≡ get_or pool i 0
-      → Scanning pool start end (none && not (eqb b 0)) (i + 1)
-  unfolding no_zero all
-  scan_turn none i s inside h b e =
-      record {
-        left =
-            and_assoc none (not (eqb b 0)) (no_zero (slice (i + 1) end pool))
-            ∙ rw (e, add-one) (ap (λ l. none && no_zero l) (sym (slice-cons i end pool 0 h inside)))
-            ∙ s.left;
-        upto = omega arith;
-      }
-
-  pub scan_ended : (none : Bool) (i : ℕ) → Scanning pool start end none i → end ≤ i → none ≡ no_zero (slice start end pool)
-  unfolding no_zero all
-  scan_ended none i s h =
-      let e : i ≡ end = omega (arith, s.upto) in
-      sym (and_true none) ∙ ap (λ l. none && no_zero l) (sym (slice_empty end pool)) ∙ rw (e) at s.left
+-- a part that is lent on is the part between two places
+pub part_is : (s : List ℕ) (start end : ℕ) → start ≤ end → end ≤ length s → take (end - start) (drop start s) ≡ slice start end s
+part_is s start end h k =
+    let e : start + (end - start) ≡ end = omega arith in
+    part_from s start (end - start) (omega arith) ∙ ap (λ n. slice start n s) e

@@ -1,12 +1,14 @@
 -- Laws of bytes that are put into the lent buffer.
-use Prim.Native.Nat.{ℕ, suc, ◌+◌, ◌*◌, ◌-◌, ◌/◌, ◌%◌, ◌≤◌, ◌<◌}
-use native.Mathlib.Nat.{add-zero}
+use Rattle.std.specs.Int.{to_be_bytes}
+use Rattle.std.proofs.Common.{w32, zero}
+use Rattle.lxt_written.specs.Stands.{length_big_endian}
+use Prim.Native.Nat.{ℕ, suc, ◌+◌, ◌*◌, ◌-◌, ◌/◌, ◌≤◌, ◌<◌}
 use native.Mathlib.Omega.{arith}
 use mathlib.Core.Path.{◌≡◌, refl, sym, ap, ◌∙◌}
 use mathlib.Core.List.{List, [], ◌∷◌, ◌++◌}
-use lib.ListN.{length, get_or, set, drop, length-append, length-set}
-use lib.Seq.{slice, slice-cons, slice_empty, drop-cons, drop-length}
-use Rattle.lxt_format.specs.Buffers.{placed, length_placed, placed_none, placed_more, placed_byte, stored_one, placed_next}
+use lib.ListN.{length, get_or, set, take, drop, length-append}
+use lib.Seq.{drop-cons, drop-length, drop-drop}
+use Rattle.lxt_format.specs.Buffers.{placed, length_placed, placed_none, placed_more, placed_byte, stored_one}
 use Rattle.lxt_format.specs.Basics.{joined}
 use Rattle.lxt_written.specs.WrittenChanges.{big_endian}
 use Rattle.lxt_written.specs.TableSizes.{length_rows}
@@ -25,83 +27,27 @@ stored_four b at x y z w h = rw (stored_three b at x y z (omega arith)) (placed_
 
 -- ---- big-endian numbers
 
-lowest : (x : ℕ) → x / 1 % 256 ≡ x % 256
-lowest x = omega arith
+by_one : (x : ℕ) → x / 1 ≡ x
+by_one x = omega arith
 
-pub one_is : (x : ℕ) → (x % 256) ∷ [] ≡ big_endian 1 x
+-- the last n bytes of a number of 32 bits
+last_bytes : (n : ℕ) → n ≤ 4 → (x : ℕ) → take (4 - (4 - n)) (drop (4 - n) (to_be_bytes w32 x)) ≡ big_endian n x
 unfolding big_endian
-one_is x = rw (lowest x)
+last_bytes zero h x = refl
+last_bytes (suc zero) h x = rw (by_one x)
+last_bytes (suc (suc zero)) h x = rw (by_one x)
+last_bytes (suc (suc (suc zero))) h x = rw (by_one x)
+last_bytes (suc (suc (suc (suc zero)))) h x = rw (by_one x)
+last_bytes (suc (suc (suc (suc (suc n))))) h x = absurd (omega arith)
 
-pub two_is : (x : ℕ) → (x / 256 % 256) ∷ (x % 256) ∷ [] ≡ big_endian 2 x
-unfolding big_endian
-two_is x = rw (lowest x)
-
-pub three_is : (x : ℕ) → (x / 65536 % 256) ∷ (x / 256 % 256) ∷ (x % 256) ∷ [] ≡ big_endian 3 x
-unfolding big_endian
-three_is x = rw (lowest x)
-
-pub four_is : (x : ℕ) → (x / 16777216 % 256) ∷ (x / 65536 % 256) ∷ (x / 256 % 256) ∷ (x % 256) ∷ [] ≡ big_endian 4 x
-unfolding big_endian
-four_is x = rw (lowest x)
-
--- ---- a part of a pool
-
--- i bytes are copied; what is left of the part, put behind them, gives the whole
-pub record Copying (b : List ℕ) (at : ℕ) (pool : List ℕ) (start end : ℕ) (b' : List ℕ) (i : ℕ) : Type 0 where
-  pub left : placed b' (at + i) (slice (start + i) end pool) ≡ placed b at (slice start end pool)
-  pub upto : start + i ≤ end
-  pub inside : end ≤ length pool
-  pub room : at + (end - start) ≤ length b
-  pub long : length b' ≡ length b
-
-pub copy_begun : (b : List ℕ) (at : ℕ) (pool : List ℕ) (start end : ℕ)
-    → start ≤ end → end ≤ length pool → at + (end - start) ≤ length b → Copying b at pool start end b 0
-copy_begun b at pool start end h k r =
-    record { left = rw (add-zero at, add-zero start); upto = omega arith; inside = k; room = r; long = refl }
-
-module _ (b : List ℕ) (at : ℕ) (pool : List ℕ) (start end : ℕ) (b' : List ℕ) (i : ℕ) (w : Copying b at pool start end b' i) where
-  pub copy_turn : i < end - start → Copying b at pool start end (set b' (at + i) (get_or pool (start + i) 0)) (i + 1)
-  copy_turn h =
-      let l = w.long in
-      let r = w.room in
-      let e : start + (i + 1) ≡ suc (start + i) = omega arith in
-      let f : at + (i + 1) ≡ at + i + 1 = omega arith in
-      let cons : slice (start + i) end pool ≡ get_or pool (start + i) 0 ∷ slice (suc (start + i)) end pool =
-      slice-cons (start + i) end pool 0 (omega arith) w.inside in
-      record {
-        left = rw (e, f)
-            (placed_next b' (at + i) (get_or pool (start + i) 0) (slice (suc (start + i)) end pool) (omega arith)
-            ∙ ap (λ t. placed b' (at + i) t) (sym cons) ∙ w.left);
-        upto = omega arith;
-        inside = w.inside;
-        room = w.room;
-        long = length-set b' (at + i) (get_or pool (start + i) 0) ∙ w.long;
-      }
-
-  pub copy_ended : end - start ≤ i → b' ≡ placed b at (slice start end pool)
-  copy_ended h =
-      let u = w.upto in
-      let e : start + i ≡ end = omega arith in
-      let none : slice (start + i) end pool ≡ [] = rw e (slice_empty end pool) in
-      sym (placed_none b' (at + i)) ∙ ap (λ t. placed b' (at + i) t) (sym none) ∙ w.left
-
--- ---- a big-endian number stored byte by byte
-
-module _ (b : List ℕ) (at x : ℕ) where
-  pub put_one : at + 1 ≤ length b → set b at (x % 256) ≡ placed b at (big_endian 1 x)
-  put_one h = stored_one b at (x % 256) (omega arith) ∙ ap (λ t. placed b at t) (one_is x)
-
-  pub put_two : at + 2 ≤ length b → set (set b at (x / 256 % 256)) (at + 1) (x % 256) ≡ placed b at (big_endian 2 x)
-  put_two h = stored_two b at (x / 256 % 256) (x % 256) h ∙ ap (λ t. placed b at t) (two_is x)
-
-  pub put_three : at + 3 ≤ length b
-      → set (set (set b at (x / 65536 % 256)) (at + 1) (x / 256 % 256)) (at + 2) (x % 256) ≡ placed b at (big_endian 3 x)
-  put_three h = stored_three b at (x / 65536 % 256) (x / 256 % 256) (x % 256) h ∙ ap (λ t. placed b at t) (three_is x)
-
-  pub put_four : at + 4 ≤ length b
-      → set (set (set (set b at (x / 16777216 % 256)) (at + 1) (x / 65536 % 256)) (at + 2) (x / 256 % 256)) (at + 3) (x % 256)
-      ≡ placed b at (big_endian 4 x)
-  put_four h = stored_four b at (x / 16777216 % 256) (x / 65536 % 256) (x / 256 % 256) (x % 256) h ∙ ap (λ t. placed b at t) (four_is x)
+-- they are put where they have room
+pub put_number : (n : ℕ) → n ≤ 4 → (b : List ℕ) (at x : ℕ) (bytes part : List ℕ) → bytes ≡ to_be_bytes w32 x → part ≡ take (4 - (4 - n)) (drop (4 - n) bytes)
+    → take at b ++ (part ++ drop (at + n - at) (drop at b)) ≡ placed b at (big_endian n x)
+put_number n h b at x bytes part e f =
+    let is : part ≡ big_endian n x = f ∙ rw e (last_bytes n h x) in
+    let k : at + n - at ≡ n = omega arith in
+    let long = length_big_endian n x in
+    rw (is, k, drop-drop n at b, long)
 
 -- ---- texts one after the other
 

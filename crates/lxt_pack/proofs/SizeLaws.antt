@@ -1,5 +1,6 @@
 -- Laws of how many bytes a change takes.
 use Rattle.std.specs.Prelude.{if◌then◌else◌}
+use mir.Val.{bool_byte}
 use Prim.Native.Nat.{ℕ, zero, suc, ◌+◌, ◌*◌, ◌-◌, ◌/◌, ◌≤◌, ◌<◌}
 use native.Mathlib.Omega.{arith}
 use native.Mathlib.Nat.{mul-le-mul}
@@ -29,7 +30,7 @@ abbrev Few : ℕ → ℕ → Type 0
 Few delta k = (k ≡ fewest_bytes delta) × (1 ≤ k) × (k ≤ 4)
 
 -- one byte, and one more from each power of 256 on
-pub few_sum : (delta a b c : ℕ) → a ≡ (if ltb 255 delta then 1 else 0) → b ≡ (if ltb 65535 delta then 1 else 0) → c ≡ (if ltb 16777215 delta then 1 else 0)
+pub few_sum : (delta a b c : ℕ) → a ≡ bool_byte (ltb 255 delta) → b ≡ bool_byte (ltb 65535 delta) → c ≡ bool_byte (ltb 16777215 delta)
     → Few delta (1 + a + b + c)
 unfolding fewest_bytes
 few_sum delta a b c ea eb ec =
@@ -185,21 +186,26 @@ module _ (value : List ℕ) (some : 1 ≤ length value) where
 
 -- ---- values
 
-pub each_most : (x y z : ℕ) → x ≤ 1 → y ≤ 1 → z ≤ 1 → (1 + x + 2 * y) * z ≤ 4
-each_most x y z hx hy hz = let sum : 1 + x + 2 * y ≤ 4 = omega arith in mul-le-mul sum hz
+byte_small : (b : Bool) (x : ℕ) → x ≡ bool_byte b → x ≤ 1
+byte_small true x e = omega arith
+byte_small false x e = omega arith
+
+pub each_most : (a b c : Bool) (x y z : ℕ) → x ≡ bool_byte a → y ≡ bool_byte b → z ≡ bool_byte c → (1 + x + 2 * y) * z ≤ 4
+each_most a b c x y z ex ey ez =
+    let sum : 1 + x + 2 * y ≤ 4 = omega (arith, byte_small a x ex, byte_small b y ey) in mul-le-mul sum (byte_small c z ez)
 
 -- the bits of a symbol, by what is seen of all: all are one, all are 0 or 1, all are 0 1 Z X
 unfoldable bits_each : Bool → Bool → Bool → ℕ
 bits_each same bits four = if same then 0 else (if bits then 1 else (if four then 2 else 4))
 
-each_of_two : (same four : Bool) (x : ℕ) → x ≡ (if not same then 1 else 0) → x ≡ bits_each same true four
+each_of_two : (same four : Bool) (x : ℕ) → x ≡ bool_byte (not same) → x ≡ bits_each same true four
 unfolding bits_each
 each_of_two true four x e = e
 each_of_two false four x e = e
 
 -- counted without a branch
-each_sum : (same bits four : Bool) → (bits ≡ true → four ≡ true) → (x y z : ℕ) → x ≡ (if not bits then 1 else 0) → y ≡ (if not four then 1 else 0)
-    → z ≡ (if not same then 1 else 0) → (1 + x + 2 * y) * z ≡ bits_each same bits four
+each_sum : (same bits four : Bool) → (bits ≡ true → four ≡ true) → (x y z : ℕ) → x ≡ bool_byte (not bits) → y ≡ bool_byte (not four)
+    → z ≡ bool_byte (not same) → (1 + x + 2 * y) * z ≡ bits_each same bits four
 unfolding bits_each
 each_sum true bits four h x y z ex ey ez = rw (ez) (omega arith)
 each_sum false true four h x y z ex ey ez = rw (ex, ey, ez, h refl)
@@ -302,7 +308,7 @@ module _ (v : List ℕ) (start end : ℕ) (p : Part v start end) where
 
     -- bits, of which it is seen whether all are one
     pub bits_of_two : 1 ≤ width → (same bits : Bool) → same ≡ same_all (slice start end v) → bits ≡ all_below 2 (slice start end v) → bits ≡ true
-        → (x r : ℕ) → x ≡ (if not same then 1 else 0) → r ≡ packed_size x (end - start) → r ≡ size_for Bits width (slice start end v)
+        → (x r : ℕ) → x ≡ bool_byte (not same) → r ≡ packed_size x (end - start) → r ≡ size_for Bits width (slice start end v)
     bits_of_two n same bits es eb h x r ex er =
         let value : List ℕ = slice start end v in
         let two = sym eb ∙ h in
@@ -313,7 +319,7 @@ module _ (v : List ℕ) (start end : ℕ) (p : Part v start end) where
     -- symbols, of which all is seen
     pub bits_seen : 1 ≤ width → (same bits four nine : Bool) → same ≡ same_all (slice start end v) → bits ≡ all_below 2 (slice start end v)
         → four ≡ all_below 4 (slice start end v) → nine ≡ all_below 9 (slice start end v) → nine ≡ true
-        → (x y z r : ℕ) → x ≡ (if not bits then 1 else 0) → y ≡ (if not four then 1 else 0) → z ≡ (if not same then 1 else 0)
+        → (x y z r : ℕ) → x ≡ bool_byte (not bits) → y ≡ bool_byte (not four) → z ≡ bool_byte (not same)
         → r ≡ packed_size ((1 + x + 2 * y) * z) (end - start) → r ≡ size_for Bits width (slice start end v)
     bits_seen n same bits four nine es eb ef en h x y z r ex ey ez er =
         let value : List ℕ = slice start end v in

@@ -1,12 +1,12 @@
 -- Laws of the symbols of a value: what is seen of them, and the command that follows from it.
-use Rattle.std.specs.Prelude.{if◌then◌else◌}
-use Prim.Native.Nat.{ℕ, zero, suc, ◌+◌, ◌≤◌, ◌<◌}
+use mir.Val.{bool_byte}
+use Prim.Native.Nat.{ℕ, zero, suc, ◌+◌, ◌-◌, ◌≤◌, ◌<◌, min, max}
 use native.Mathlib.Omega.{arith}
 use mathlib.Core.Path.{◌≡◌, refl, sym, ap, ◌∙◌}
 use mathlib.Core.Bool.{Bool, true, false, not, ◌&&◌, ◌||◌}
 use mathlib.Core.List.{List, [], ◌∷◌, ◌++◌}
-use lib.ListN.{length, get_or, take, drop}
-use lib.Seq.{slice, slice-cons, slice_empty, length-slice}
+use lib.ListN.{length, get_or, take, drop, length-drop}
+use lib.Seq.{slice, slice-cons, slice_empty, length-slice, get_or-take, get_or-drop, length-take-le}
 use lib.Dec.{ltb, eqb}
 use native.Mathlib.Decide.{ℕ_discrete, dec_le}
 use borrow.Author.Tests.{lt-ltb, le-ltb, eq-eqb, ne_eqb, eqb-true, ltb-true}
@@ -102,7 +102,7 @@ symbols_codes (x ∷ l) = rw (symbol_code x, symbols_codes l)
 
 -- a class is below 1 of 0 1 Z X, and below 2 of any symbol
 pub class_is : (b : ℕ) (four nine : Bool) (x y : ℕ) → four ≡ ltb (code_of b) 4 → nine ≡ ltb (code_of b) 9
-    → x ≡ (if not four then 1 else 0) → y ≡ (if not nine then 1 else 0) → Classed b (x + y)
+    → x ≡ bool_byte (not four) → y ≡ bool_byte (not nine) → Classed b (x + y)
 class_is b four nine x y ef en ex ey =
     let code : ℕ = code_of b in
     elim (dec_le 4 code) [
@@ -121,6 +121,27 @@ class_is b four nine x y ef en ex ey =
             rw (ex, ey, ef, en, of_four, of-nine) (record { four = sym of_four; nine = sym of-nine })
       ]
     ]
+
+-- ---- the part that a loop goes over
+
+abbrev pub part_of : List ℕ → ℕ → ℕ → List ℕ
+part_of v start end = take (end - start) (drop start v)
+
+module _ (v : List ℕ) (start end i : ℕ) (inside : end ≤ length v) where
+  part_long : length (part_of v start end) ≡ end - start
+  part_long = let e = length-drop start v in length-take-le (end - start) (drop start v) (omega arith)
+
+  item_below : i < length (part_of v start end) → start + i < end
+  item_below h = omega (arith, part_long)
+
+  item_is : i < length (part_of v start end) → get_or (part_of v start end) i 0 ≡ get_or v (start + i) 0
+  item_is h = get_or-take (end - start) (drop start v) i 0 (omega (arith, part_long)) ∙ get_or-drop start v i 0
+
+  further : start + (i + 1) ≡ start + i + 1
+  further = omega arith
+
+  pub part_over : length (part_of v start end) ≤ i → end ≤ start + i
+  part_over h = omega (arith, part_long)
 
 -- ---- what is seen, symbol by symbol
 
@@ -141,7 +162,7 @@ module _ (p : ℕ → Bool) (v : List ℕ) (start end : ℕ) where
   pub test_begun : start ≤ end → Testing p v start end true start
   test_begun h = record { left = refl; upto = h }
 
-  pub test_turn : (found : Bool) (i : ℕ) → Testing p v start end found i → end ≤ length v → i < end → (q : Bool) → q ≡ p (get_or v i 0)
+  test_turn : (found : Bool) (i : ℕ) → Testing p v start end found i → end ≤ length v → i < end → (q : Bool) → q ≡ p (get_or v i 0)
       → Testing p v start end (found && q) (i + 1)
   unfolding all
   test_turn found i w inside h q e =
@@ -152,6 +173,12 @@ module _ (p : ℕ → Bool) (v : List ℕ) (start end : ℕ) where
         upto = omega arith;
       }
 
+  pub test_item : (found : Bool) (i : ℕ) → Testing p v start end found (start + i) → end ≤ length v → i < length (part_of v start end)
+      → (q : Bool) → q ≡ p (get_or (part_of v start end) i 0) → Testing p v start end (found && q) (start + (i + 1))
+  test_item found i w inside h q e =
+      rw (further v start end i inside)
+      (test_turn found (start + i) w inside (item_below v start end i inside h) q (e ∙ ap p (item_is v start end i inside h)))
+
   pub test_ended : (found : Bool) (i : ℕ) → Testing p v start end found i → end ≤ i → found ≡ all p (slice start end v)
   unfolding all
   test_ended found i w h =
@@ -160,6 +187,13 @@ module _ (p : ℕ → Bool) (v : List ℕ) (start end : ℕ) where
       sym (and_true found) ∙ (rw none at w.left)
 
 -- ---- what is seen, by the lowest and the highest
+
+-- the least and the greatest of two numbers
+lower_of : (a b r : ℕ) → r ≡ min a b → Lower a b r
+lower_of a b r e = record { left = omega arith; right = omega arith; most = λ k h l. omega arith }
+
+higher_of : (a b r : ℕ) → r ≡ max a b → Higher a b r
+higher_of a b r e = record { left = omega arith; right = omega arith; least = λ k h l. omega arith }
 
 -- two tests are one where each gives the other
 either_way : (a b : Bool) → (a ≡ true → b ≡ true) → (b ≡ true → a ≡ true) → a ≡ b
@@ -260,7 +294,7 @@ module _ (v : List ℕ) (start end : ℕ) (some : start < end) (inside : end ≤
       again true b = refl
       again false b = refl
 
-  pub ranged_turn : (first low high i low' high' : ℕ) → Ranged v start end first low high i → i < end
+  ranged_turn : (first low high i low' high' : ℕ) → Ranged v start end first low high i → i < end
       → Lower low (get_or v i 0) low' → Higher high (get_or v i 0) high' → Ranged v start end first low' high' (i + 1)
   ranged_turn first low high i low' high' w less l h =
       let symbol : ℕ = get_or v i 0 in
@@ -279,6 +313,14 @@ module _ (v : List ℕ) (start end : ℕ) (some : start < end) (inside : end ≤
             (bits_turn low high symbol low' high' l h (omega arith))
             (test_turn (λ b. ltb (code_of b) 2) v start end (ltb (code_of low) 2 && ltb (code_of high) 2) i w.bits inside less (ltb (code_of symbol) 2) refl);
       }
+
+  pub ranged_item : (first low high i low' high' : ℕ) → Ranged v start end first low high (start + i) → i < length (part_of v start end)
+      → low' ≡ min low (get_or (part_of v start end) i 0) → high' ≡ max high (get_or (part_of v start end) i 0) → Ranged v start end first low' high' (start + (i + 1))
+  ranged_item first low high i low' high' w h l m =
+      let item = item_is v start end i inside h in
+      rw (further v start end i inside)
+      (ranged_turn first low high (start + i) low' high' w (item_below v start end i inside h)
+      (lower_of _ _ _ (l ∙ ap (λ x. min low x) item)) (higher_of _ _ _ (m ∙ ap (λ x. max high x) item)))
 
 -- ---- what is seen, by the highest class
 
@@ -314,13 +356,20 @@ module _ (v : List ℕ) (start end : ℕ) where
       test_as (λ b. ltb (code_of b) bound) v start end (ltb class k && ltb c k) (ltb class' k) (i + 1) (higher_below k class c class' h)
       (test_turn (λ b. ltb (code_of b) bound) v start end (ltb class k) i w inside less (ltb c k) e)
 
-  pub classes_turn : (class i c class' : ℕ) → Classes v start end class i → end ≤ length v → i < end → Classed (get_or v i 0) c → Higher class c class'
+  classes_turn : (class i c class' : ℕ) → Classes v start end class i → end ≤ length v → i < end → Classed (get_or v i 0) c → Higher class c class'
       → Classes v start end class' (i + 1)
   classes_turn class i c class' w inside less is h =
       record {
         four = class_turn 1 4 class i c class' w.four inside less is.four h;
         nine = class_turn 2 9 class i c class' w.nine inside less is.nine h;
       }
+
+  pub classes_item : (class i c class' : ℕ) → Classes v start end class (start + i) → end ≤ length v → i < length (part_of v start end)
+      → Classed (get_or (part_of v start end) i 0) c → class' ≡ max class c → Classes v start end class' (start + (i + 1))
+  classes_item class i c class' w inside h is m =
+      let is' : Classed (get_or v (start + i) 0) c = rw (item_is v start end i inside h) at is in
+      rw (further v start end i inside)
+      (classes_turn class (start + i) c class' w inside (item_below v start end i inside h) is' (higher_of _ _ _ m))
 
   pub classes_four : (class i : ℕ) → Classes v start end class i → end ≤ i → ltb class 1 ≡ all_below 4 (slice start end v)
   unfolding all_below

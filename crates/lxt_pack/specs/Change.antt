@@ -1,5 +1,5 @@
 -- What the functions over one change answer and ask.
-use Rattle.std.specs.Prelude.{ℕ, ◌+◌, ◌*◌, ◌-◌, ◌≤◌, ◌<◌, ◌≡◌, Bool, true, false, List, ◌∷◌, length, if◌then◌else◌}
+use Rattle.std.specs.Prelude.{ℕ, ◌+◌, ◌*◌, ◌-◌, ◌≤◌, ◌<◌, ◌≡◌, true, List, ◌∷◌, length, if◌then◌else◌}
 use Rattle.std.proofs.Math.Seq.{slice}
 use Rattle.lxt_format.specs.Basics.{all}
 use Rattle.lxt_format.specs.Buffers.{placed}
@@ -57,12 +57,6 @@ pub record Held (values : List ℕ) (start end command : ℕ) (out : List ℕ) (
   pub symbols : all is_symbol (slice start end values) ≡ true
   pub holds : can_hold Bits (slice start end values) command ≡ true
   pub room : at + packed_size (symbol_size command) (end - start) ≤ length out
-
-unfoldable pub is_text : Kind → Bool
-is_text Bits = false
-is_text Integer = false
-is_text Real = false
-is_text Text = true
 
 -- a value of this kind that is allowed, with room for its change
 pub record Sound (kind : Kind) (values : List ℕ) (start end delta : ℕ) (out : List ℕ) (at : ℕ) : Type 0 where

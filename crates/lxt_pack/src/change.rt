@@ -3,43 +3,32 @@ ghost use Rattle.std.specs.Prelude.{◌≡◌, ◌+◌, ◌*◌, ◌-◌, ◌≤
 ghost use Rattle.std.proofs.Math.Seq.{slice};
 ghost use Rattle.lxt_format.specs.Buffers.{placed};
 ghost use Rattle.lxt_format.specs.Changes.{symbol_size, packed_size};
-ghost use Rattle.lxt_format.specs.Reals.{is_real};
 ghost use Rattle.lxt_format.specs.declared.Kind.TheVariants.{Bits, Integer, Real, Text};
 ghost use Rattle.lxt_written.specs.WrittenChanges.{code_of, fewest_bytes, packed_symbols};
-ghost use Rattle.lxt_pack.specs.Change.{Part, WidthFor, not_allowed, size_for, Sizes, head_of, Scales, HeadAsked, Held, is_text, Sound, Puts};
+ghost use Rattle.lxt_pack.specs.Change.{Part, WidthFor, not_allowed, size_for, Sizes, head_of, Scales, HeadAsked, Held, Sound, Puts};
 
 use crate::{parts, put, symbols};
 use lxt_format::Kind;
 
 // ---- how many bytes
 
-fn one_if(test: bool) -> usize
-    ensures { (result ≡ (if test then 1 else 0)) × (result ≤ 1) }
-{
-    if test { 1 } else { 0 }
-}
-
 // The bytes that a delta takes, counted without a branch.
 fn delta_size(delta: u32) -> usize
     ensures { (result ≡ fewest_bytes delta) × (1 ≤ result) × (result ≤ 4) }
 {
-    1 + one_if(0xFF < delta) + one_if(0xFFFF < delta) + one_if(0xFF_FFFF < delta)
+    1 + usize::from(0xFF < delta) + usize::from(0xFFFF < delta) + usize::from(0xFF_FFFF < delta)
 }
 
 // The bits of a symbol under a command.
 fn symbol_size(command: u8) -> usize
     ensures { (result ≡ symbol_size command) × (result ≤ 4) }
 {
-    if command == 0 {
-        return 1;
+    match command {
+        0 => 1,
+        1 => 2,
+        2 => 4,
+        _ => 0,
     }
-    if command == 1 {
-        return 2;
-    }
-    if command == 2 {
-        return 4;
-    }
-    0
 }
 
 // The bytes of `width` symbols of b bits.
@@ -81,14 +70,14 @@ fn bits_size(width: u64, values: &[u8], start: usize, end: usize) -> usize
     if MANY < size {
         let seen = symbols::look(values, start, end);
         if seen.bits {
-            return packed_size(one_if(!seen.same), size);
+            return packed_size(usize::from(!seen.same), size);
         }
     }
     let seen = symbols::look_in_detail(values, start, end);
     if !seen.nine {
         return NONE;
     }
-    let b = (1 + one_if(!seen.bits) + 2 * one_if(!seen.four)) * one_if(!seen.same);
+    let b = (1 + usize::from(!seen.bits) + 2 * usize::from(!seen.four)) * usize::from(!seen.same);
     packed_size(b, size)
 }
 
@@ -154,25 +143,16 @@ pub fn size_of(kind: Kind, width: u64, values: &[u8], start: usize, end: usize, 
 
 // ---- its bytes
 
-// One of two bytes.
-fn chosen(test: bool, a: u8, b: u8) -> u8
-    ensures { result ≡ (if test then a else b) }
-{
-    if test { a } else { b }
-}
-
 // What brings a delta of k bytes to the top of 3.
 fn scale_of(k: usize) -> u32
     requires { (1 ≤ k) × (k ≤ 3) }
     ensures { Scales k result }
 {
-    if k == 1 {
-        return 0x1_0000;
+    match k {
+        1 => 0x1_0000,
+        2 => 0x100,
+        _ => 1,
     }
-    if k == 2 {
-        return 0x100;
-    }
-    1
 }
 
 // The command byte and the delta, and where the data goes. Bytes that the delta does not take are stored as they
@@ -188,8 +168,12 @@ fn put_head(command: u8, delta: u32, out: &mut [u8], at: usize) -> usize
     let third = out[at + 3];
     out[at] = (16 * (k - 1)) as u8 + command;
     out[at + 1] = (bytes / 0x1_0000) as u8;
-    out[at + 2] = chosen(1 < k, (bytes / 0x100 % 0x100) as u8, second);
-    out[at + 3] = chosen(2 < k, (bytes % 0x100) as u8, third);
+    out[at + 2] = if 1 < k {
+        (bytes / 0x100 % 0x100) as u8
+    } else {
+        second
+    };
+    out[at + 3] = if 2 < k { (bytes % 0x100) as u8 } else { third };
     at + (1 + k)
 }
 
@@ -245,28 +229,6 @@ fn put_text(values: &[u8], start: usize, end: usize, delta: u32, out: &mut [u8],
     data + (end - start) + 1
 }
 
-fn is_real(kind: Kind) -> bool
-    ensures { result ≡ is_real kind }
-{
-    match kind {
-        Kind::Bits => false,
-        Kind::Integer => false,
-        Kind::Real => true,
-        Kind::Text => false,
-    }
-}
-
-fn is_text(kind: Kind) -> bool
-    ensures { result ≡ is_text kind }
-{
-    match kind {
-        Kind::Bits => false,
-        Kind::Integer => false,
-        Kind::Real => false,
-        Kind::Text => true,
-    }
-}
-
 // A change, and where it ends. An integer is put as its symbols.
 pub fn put(
     kind: Kind,
@@ -280,11 +242,9 @@ pub fn put(
     requires { Sound kind values.now start end delta out.old at }
     ensures { Puts kind (slice start end values.now) delta out.old at out.new result }
 {
-    if is_real(kind) {
-        return put_real(values, start, end, delta, out, at);
+    match kind {
+        Kind::Bits | Kind::Integer => put_bits(values, start, end, delta, out, at),
+        Kind::Real => put_real(values, start, end, delta, out, at),
+        Kind::Text => put_text(values, start, end, delta, out, at),
     }
-    if is_text(kind) {
-        return put_text(values, start, end, delta, out, at);
-    }
-    put_bits(values, start, end, delta, out, at)
 }

@@ -8,12 +8,5 @@ pub fn no_zero(pool: &[u8], start: usize, end: usize) -> bool
     requires { (start ≤ end) × (end ≤ length pool.now) }
     ensures { result ≡ no_zero (slice start end pool.now) }
 {
-    let mut none = true;
-    let mut i = start;
-    while i < end {
-        let b = pool[i];
-        none = none & (b != 0);
-        i += 1;
-    }
-    none
+    !pool[start..end].contains(&0)
 }

@@ -8,7 +8,7 @@ ghost use Rattle.lxt_format.specs.UnpackLaws.{Size};
 ghost use Rattle.lxt_format.specs.declared.Kind.TheVariants.{Bits};
 ghost use Rattle.lxt_written.specs.WrittenChanges.{code_of, command_for, packed_codes, pack};
 ghost use Rattle.lxt_written.specs.Writing.{is_symbol};
-ghost use Rattle.lxt_pack.specs.Symbols.{all_below, same_all, Lower, Higher, Classed, Coded, Symbols, Whole, Holding, Packing};
+ghost use Rattle.lxt_pack.specs.Symbols.{all_below, same_all, Classed, Coded, Symbols, Whole, Holding, Packing};
 
 // ---- one symbol
 
@@ -36,39 +36,22 @@ pub fn is_symbol(symbol: u8) -> bool
 fn code_of_four(symbol: u8) -> u8
     ensures { Coded symbol 4 result × (result < 4) }
 {
-    (symbol as u32 * 107 / 64 % 4) as u8
-}
-
-// A code where a test holds, else 0.
-fn pick(test: bool, code: u8) -> u8
-    ensures { (result ≡ (if test then code else 0)) × (result ≤ code) }
-{
-    if test { code } else { 0 }
+    (u32::from(symbol) * 107 / 64 % 4) as u8
 }
 
 // The code of any symbol. A loop over it is made wide by the compiler.
 fn code_of(symbol: u8) -> u8
     ensures { Coded symbol 9 result × (result < 16) }
 {
-    let of_four = pick(symbol == b'1', 1) + pick(symbol == b'Z', 2) + pick(symbol == b'X', 3);
-    let of_hu = pick(symbol == b'H', 4) + pick(symbol == b'U', 5);
-    let of_wl = pick(symbol == b'W', 6) + pick(symbol == b'L', 7);
-    of_four + of_hu + of_wl + pick(symbol == b'-', 8)
+    let of_four = u8::from(symbol == b'1')
+        + 2 * u8::from(symbol == b'Z')
+        + 3 * u8::from(symbol == b'X');
+    let of_hu = 4 * u8::from(symbol == b'H') + 5 * u8::from(symbol == b'U');
+    let of_wl = 6 * u8::from(symbol == b'W') + 7 * u8::from(symbol == b'L');
+    of_four + of_hu + of_wl + 8 * u8::from(symbol == b'-')
 }
 
 // ---- the command
-
-fn lower(a: u8, b: u8) -> u8
-    ensures { Lower a b result }
-{
-    if b < a { b } else { a }
-}
-
-fn higher(a: u8, b: u8) -> u8
-    ensures { Higher a b result }
-{
-    if a < b { b } else { a }
-}
 
 // All symbols are the first; all are 0 or 1.
 #[derive(Clone, Copy)]
@@ -84,25 +67,20 @@ pub fn look(values: &[u8], start: usize, end: usize) -> Seen
 {
     let mut low = values[start];
     let mut high = values[start];
-    let mut i = start;
-    while i < end {
-        let symbol = values[i];
-        low = lower(low, symbol);
-        high = higher(high, symbol);
-        i += 1;
+    for symbol in &values[start..end] {
+        low = low.min(*symbol);
+        high = high.max(*symbol);
     }
+    let same = low == high;
     let bits = is_bit(low) & is_bit(high);
-    Seen {
-        same: low == high,
-        bits,
-    }
+    Seen { same, bits }
 }
 
 // 0 of 0, 1, Z and X, 1 of the other symbols, 2 of a byte that is none.
 fn class_of(symbol: u8) -> u8
     ensures { Classed symbol result }
 {
-    pick(!is_one_of_four(symbol), 1) + pick(!is_symbol(symbol), 1)
+    u8::from(!is_one_of_four(symbol)) + u8::from(!is_symbol(symbol))
 }
 
 // All symbols are the first; all are 0 or 1; all are 0, 1, Z or X; all are symbols.
@@ -123,19 +101,14 @@ pub fn look_in_detail(values: &[u8], start: usize, end: usize) -> Detail
     let mut low = values[start];
     let mut high = values[start];
     let mut class: u8 = 0;
-    let mut i = start;
-    while i < end {
-        let symbol = values[i];
-        low = lower(low, symbol);
-        high = higher(high, symbol);
-        class = higher(class, class_of(symbol));
-        i += 1;
+    for symbol in &values[start..end] {
+        low = low.min(*symbol);
+        high = high.max(*symbol);
+        class = class.max(class_of(*symbol));
     }
-    let same = low == high;
-    let bits = is_bit(low) & is_bit(high);
     Detail {
-        same,
-        bits,
+        same: low == high,
+        bits: is_bit(low) & is_bit(high),
         four: class < 1,
         nine: class < 2,
     }
@@ -146,10 +119,8 @@ fn all_of_four(values: &[u8], start: usize, end: usize) -> bool
     ensures { result ≡ all_below 4 (slice start end values.now) }
 {
     let mut four = true;
-    let mut i = start;
-    while i < end {
-        four = four & is_one_of_four(values[i]);
-        i += 1;
+    for symbol in &values[start..end] {
+        four = four & is_one_of_four(*symbol);
     }
     four
 }
@@ -180,10 +151,10 @@ fn nibble(values: &[u8], at: usize) -> u8
     requires { Whole values.now 1 4 at }
     ensures { (result ≡ packed_codes 1 4 (map code_of (slice at (at + 4) values.now))) × (result < 16) }
 {
-    let high = values[at] as u32 * 0x100_0000 + values[at + 1] as u32 * 0x1_0000;
-    let low = values[at + 2] as u32 * 0x100 + values[at + 3] as u32;
+    let high = u32::from(values[at]) * 0x100_0000 + u32::from(values[at + 1]) * 0x1_0000;
+    let low = u32::from(values[at + 2]) * 0x100 + u32::from(values[at + 3]);
     let bits = high + low - 0x3030_3030;
-    (bits as u64 * 0x0102_0408 / 0x100_0000 % 16) as u8
+    (u64::from(bits) * 0x0102_0408 / 0x100_0000 % 16) as u8
 }
 
 // The byte of 8 codes of 1 bit.
@@ -212,20 +183,6 @@ fn two(values: &[u8], at: usize) -> u8
     code_of(values[at]) * 16 + code_of(values[at + 1])
 }
 
-// How many codes there are of b bits.
-fn base_of(b: usize) -> u32
-    requires { Size b }
-    ensures { (result ≡ 2 ^ b) × (result ≤ 16) }
-{
-    if b == 1 {
-        return 2;
-    }
-    if b == 2 {
-        return 4;
-    }
-    16
-}
-
 // The code k places behind `at`, and 0 from `end` on.
 fn digit(values: &[u8], at: usize, k: usize, end: usize) -> u8
     requires { (at ≤ end) × (end ≤ length values.now) × Symbols values.now at end }
@@ -242,65 +199,39 @@ fn rest(values: &[u8], at: usize, end: usize, b: usize) -> u8
     requires { Holding values.now b at end }
     ensures { result ≡ packed_codes b (8 / b) (map code_of (slice at end values.now)) }
 {
-    let places = 8 / b;
-    let base = base_of(b);
+    let base = 1 << b;
     let mut sum: u32 = 0;
-    let mut k: usize = 0;
-    while k < places {
-        sum = sum * base + digit(values, at, k, end) as u32;
-        k += 1;
+    for k in 0..8 / b {
+        sum = sum * base + u32::from(digit(values, at, k, end));
     }
     sum as u8
 }
 
-// Codes of 1 bit, 8 to a byte.
-fn pack_bits(values: &[u8], start: usize, end: usize, out: &mut [u8], at: usize)
-    requires { Packing values.now start end 1 out.old at }
-    ensures { out.new ≡ placed out.old at (pack 1 (packed_size 1 (end - start)) (map code_of (slice start end values.now))) }
+// The byte of 8 / B codes of B bits.
+fn whole<const B: usize>(values: &[u8], at: usize) -> u8
+    requires { Size B × Whole values.now B (8 / B) at }
+    ensures { result ≡ packed_codes B (8 / B) (map code_of (slice at (at + 8 / B) values.now)) }
 {
-    let count = (end - start) / 8;
-    let mut j: usize = 0;
-    while j < count {
-        out[at + j] = eight(values, start + 8 * j);
-        j += 1;
-    }
-    let p = start + 8 * count;
-    if p < end {
-        out[at + count] = rest(values, p, end, 1);
+    match B {
+        1 => eight(values, at),
+        2 => four(values, at),
+        _ => two(values, at),
     }
 }
 
-// Codes of 2 bits, 4 to a byte.
-fn pack_pairs(values: &[u8], start: usize, end: usize, out: &mut [u8], at: usize)
-    requires { Packing values.now start end 2 out.old at }
-    ensures { out.new ≡ placed out.old at (pack 2 (packed_size 2 (end - start)) (map code_of (slice start end values.now))) }
+// Codes of B bits, as many to a byte as it holds.
+fn pack_codes<const B: usize>(values: &[u8], start: usize, end: usize, out: &mut [u8], at: usize)
+    requires { Packing values.now start end B out.old at }
+    ensures { out.new ≡ placed out.old at (pack B (packed_size B (end - start)) (map code_of (slice start end values.now))) }
 {
-    let count = (end - start) / 4;
-    let mut j: usize = 0;
-    while j < count {
-        out[at + j] = four(values, start + 4 * j);
-        j += 1;
+    let places = 8 / B;
+    let count = (end - start) / places;
+    for j in 0..count {
+        out[at + j] = whole::<B>(values, start + places * j);
     }
-    let p = start + 4 * count;
+    let p = start + places * count;
     if p < end {
-        out[at + count] = rest(values, p, end, 2);
-    }
-}
-
-// Codes of 4 bits, 2 to a byte.
-fn pack_codes(values: &[u8], start: usize, end: usize, out: &mut [u8], at: usize)
-    requires { Packing values.now start end 4 out.old at }
-    ensures { out.new ≡ placed out.old at (pack 4 (packed_size 4 (end - start)) (map code_of (slice start end values.now))) }
-{
-    let count = (end - start) / 2;
-    let mut j: usize = 0;
-    while j < count {
-        out[at + j] = two(values, start + 2 * j);
-        j += 1;
-    }
-    let p = start + 2 * count;
-    if p < end {
-        out[at + count] = rest(values, p, end, 4);
+        out[at + count] = rest(values, p, end, B);
     }
 }
 
@@ -309,13 +240,9 @@ pub fn pack(values: &[u8], start: usize, end: usize, b: usize, out: &mut [u8], a
     requires { Packing values.now start end b out.old at }
     ensures { out.new ≡ placed out.old at (pack b (packed_size b (end - start)) (map code_of (slice start end values.now))) }
 {
-    if b == 1 {
-        pack_bits(values, start, end, out, at);
-        return;
+    match b {
+        1 => pack_codes::<1>(values, start, end, out, at),
+        2 => pack_codes::<2>(values, start, end, out, at),
+        _ => pack_codes::<4>(values, start, end, out, at),
     }
-    if b == 2 {
-        pack_pairs(values, start, end, out, at);
-        return;
-    }
-    pack_codes(values, start, end, out, at);
 }

@@ -20,7 +20,7 @@ returns-then-seen c =
     let bits = c.if-seen.true in
     let size = c.packed_size.ensures in
     record {
-      is = bits_of_two _ _ _ c.requires.0 _ long c.requires.1 _ _ seen.0 seen.1 bits _ _ c.one_if.ensures.0 size.0;
+      is = bits_of_two _ _ _ c.requires.0 _ long c.requires.1 _ _ seen.0 seen.1 bits _ _ c.from.ensures size.0;
       most = omega arith;
     }
 
@@ -33,13 +33,13 @@ returns-then-not-seen c =
 
 pub overflow_mul-b-2 : goal.overflow_mul-b-2
 overflow_mul-b-2 c =
-    let most = each_most _ _ _ c.one_if-2.ensures.1 c.one_if-3.ensures.1 c.one_if-4.ensures.1 in
+    let most = each_most _ _ _ _ _ _ c.from-2.ensures c.from-3.ensures c.from-4.ensures in
     omega (arith, most)
 
 pub packed_size-requires-2 : goal.packed_size-requires-2
 packed_size-requires-2 c =
     let long = c.if-size-width.false in
-    let most = each_most _ _ _ c.one_if-2.ensures.1 c.one_if-3.ensures.1 c.one_if-4.ensures.1 in
+    let most = each_most _ _ _ _ _ _ c.from-2.ensures c.from-3.ensures c.from-4.ensures in
     (omega (arith, most), omega (arith, long, c.requires.2))
 
 pub returns : goal.returns
@@ -47,9 +47,9 @@ returns c =
     let long = c.if-size-width.false in
     let detail = c.look_in_detail-seen.ensures in
     let nine = not-false _ c.if-not-seen.false in
-    let bits = c.one_if-2.ensures.0 in
-    let four = c.one_if-3.ensures.0 in
-    let same = c.one_if-4.ensures.0 in
+    let bits = c.from-2.ensures in
+    let four = c.from-3.ensures in
+    let same = c.from-4.ensures in
     let size = c.packed_size-2.ensures in
     record {
       is = bits_seen _ _ _ c.requires.0 _ long c.requires.1 _ _ _ _ detail.same_value.0 detail.same_value.1 detail.four_value.0 detail.four_value.1 nine _ _ _ _ bits four same size.0;

@@ -1,9 +1,10 @@
-use lib.ListN.{length-set}
 use mathlib.Core.Path.{refl}
 use native.Mathlib.Omega.{arith}
+use borrow.Author.Tests.{lt-ltb, le-ltb}
 use Rattle.lxt_pack.proofs.ChangeLaws.{head_put}
 use Rattle.lxt_pack.proofs.SizeLaws.{small_most, scaled_small}
 use Rattle.lxt_pack.proofs.change.put_head.Goals as goal
+use Rattle.lxt_pack.proofs.change.put_head.Goals.{then-k-gt1, else-k-gt1, then-k-gt2, else-k-gt2}
 
 pub scale_of-requires : goal.scale_of-requires
 scale_of-requires c =
@@ -16,18 +17,18 @@ overflow_mul-bytes c = omega (arith, scaled_small _ _ _ c.requires.delta_small c
 pub overflow_cast-out-2 : goal.overflow_cast-out-2
 overflow_cast-out-2 c = omega (arith, scaled_small _ _ _ c.requires.delta_small c.delta_size-k.ensures.0 c.scale_of.ensures)
 
-pub bounds-out-at-4 : goal.bounds-out-at-4
-bounds-out-at-4 c = simp length-set (omega (arith, c.requires.room))
-
-pub bounds-out-at-5 : goal.bounds-out-at-5
-bounds-out-at-5 c = simp length-set (omega (arith, c.requires.room))
-
-pub bounds-out-at-6 : goal.bounds-out-at-6
-bounds-out-at-6 c = simp length-set (omega (arith, c.requires.room))
-
-pub returns : goal.returns
-returns c =
+pub returns-clause-out_after : goal.returns-clause-out_after
+returns-clause-out_after c =
     let k = c.delta_size-k.ensures.0 in
     let scale = c.scale_of.ensures in
-    let put = head_put c.args.out.now c.args.at _ _ _ _ _ _ _ _ c.requires k scale refl refl c.chosen.ensures c.chosen-2.ensures in
-    record { out_after = put; value = omega (arith, k) }
+    let put = head_put c.args.out.now c.args.at _ _ _ _ _ _ _ _ c.requires k scale refl refl in
+    elim c.if-k-gt1.branch [
+      | then-k-gt1 v ↦ elim c.if-k-gt2.branch [
+        | then-k-gt2 w ↦ put (rw (lt-ltb 1 _ v.if-k-gt1.true) v.out-is) (rw (lt-ltb 2 _ w.if-k-gt2.true) w.out-is)
+        | else-k-gt2 w ↦ put (rw (lt-ltb 1 _ v.if-k-gt1.true) v.out-is) (rw (le-ltb 2 _ w.if-k-gt2.false) w.out-is)
+      ]
+      | else-k-gt1 v ↦ elim c.if-k-gt2.branch [
+        | then-k-gt2 w ↦ put (rw (le-ltb 1 _ v.if-k-gt1.false) v.out-is) (rw (lt-ltb 2 _ w.if-k-gt2.true) w.out-is)
+        | else-k-gt2 w ↦ put (rw (le-ltb 1 _ v.if-k-gt1.false) v.out-is) (rw (le-ltb 2 _ w.if-k-gt2.false) w.out-is)
+      ]
+    ]

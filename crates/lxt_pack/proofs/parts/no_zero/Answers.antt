@@ -1,16 +1,7 @@
-use mathlib.Core.Path.{refl}
-use native.Mathlib.Omega.{arith}
-use Rattle.lxt_pack.proofs.PartLaws.{scan_begun, scan_turn, scan_ended}
+use Rattle.std.proofs.Common.{ap, ◌∙◌, not}
+use Rattle.lxt_written.specs.Writing.{no_zero}
+use Rattle.lxt_pack.proofs.PartLaws.{none_zero, part_is}
 use Rattle.lxt_pack.proofs.parts.no_zero.Goals as goal
 
-pub loop-i-init : goal.loop-i-init
-loop-i-init c = search scan_begun
-
-pub loop-i-smaller : goal.loop-i-smaller
-loop-i-smaller c = omega arith
-
-pub loop-i-preserved : goal.loop-i-preserved
-loop-i-preserved c = scan_turn _ _ _ _ _ c.loop-i.invariant c.requires.1 c.loop-i-test.true _ refl
-
 pub returns : goal.returns
-returns c = search scan_ended
+returns c = ap not c.contains.ensures.value ∙ none_zero _ ∙ ap no_zero (part_is _ _ _ c.requires.0 c.requires.1)

@@ -1,9 +1,5 @@
 use Rattle.lxt_pack.proofs.PackLaws.{Summing}
-use Prim.Native.Nat.{◌-◌}
 use Rattle.lxt_pack.proofs.symbols.rest.Given as goal
 
 abbrev pub invariant-loop-k : goal.invariant-loop-k
 invariant-loop-k l = Summing l.values l.at l.end l.b l.sum l.k
-
-abbrev pub decreases-loop-k : goal.decreases-loop-k
-decreases-loop-k l = l.places - l.k
