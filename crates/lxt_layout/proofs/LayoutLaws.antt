@@ -1,18 +1,18 @@
 -- A law for each way out of the functions that put the parts of a written file into the lent buffer.
 use Rattle.std.specs.Prelude.{if◌then◌else◌}
-use Prim.Native.Nat.{ℕ, suc, ◌+◌, ◌*◌, ◌-◌, ◌≤◌, ◌<◌}
+use Prim.Native.Nat.{ℕ, suc, ◌+◌, ◌*◌, ◌≤◌, ◌<◌}
 use native.Mathlib.Nat.{add-zero}
 use native.Mathlib.Numerals.{add-one}
 use native.Mathlib.Omega.{arith}
 use mathlib.Core.Path.{◌≡◌, refl, sym, ap, ◌∙◌}
-use mathlib.Core.Bool.{Bool, true, false, ◌&&◌, true≢false}
+use mathlib.Core.Bool.{Bool, true, false, ◌&&◌}
 use mathlib.Core.List.{List, [], ◌∷◌, ◌++◌}
-use lib.ListN.{length, get_or, take, drop, drop_of_length-le}
+use lib.ListN.{length, get_or, set, take, drop, drop_of_length-le}
 use lib.Seq.{drop-cons, length-take-le}
-use lib.IntN.{ℤ, pos, negsuc, nat_abs}
-use lib.Signed.{lt_z, le_z, non_neg}
-use lib.Dec.{T, leb}
-use borrow.Author.Tests.{ltb-true, leb-true, leb-false, lt-ltb, le-leb, lt-leb}
+use lib.IntN.{ℤ, pos, negsuc}
+use lib.Signed.{le_z}
+use lib.Dec.{leb}
+use borrow.Author.Tests.{leb-true, leb-false, le-leb, lt-leb}
 use mir.Syntax.{w8}
 use mir.Val.{SFits, of_z, to_z}
 use mir.ValLaws.{to_z-of_z}
@@ -25,6 +25,7 @@ use Rattle.lxt_written.specs.Stands.{length_big_endian}
 use Rattle.lxt_written.specs.WrittenChanges.{big_endian}
 use Rattle.lxt_written.specs.WrittenFile.{header, words, signed_byte}
 use Rattle.lxt_pack.proofs.ChangeLaws.{one_byte}
+use Rattle.lxt_pack.proofs.PutLaws.{stored_two}
 use Rattle.lxt_layout.specs.declared.Places.{Places}
 use Rattle.lxt_layout.specs.Layout.{values_section, items_from, item_values, tail_of}
 
@@ -66,26 +67,11 @@ within_scale (negsuc k) =
 pub scale_allowed : (z : ℤ) → SFits w8 z → (le_z (negsuc 20) (to_z w8 (of_z w8 z)) && le_z (to_z w8 (of_z w8 z)) (pos 2)) ≡ timescale_allowed z
 scale_allowed z f = rw (to_z-of_z w8 z f) (within_scale z)
 
--- a number y of 7 bits, of which the byte of z is made by f
-pub record Half (z y : ℤ) (f : ℕ → ℕ) : Type 0 where
-  pub sign : T (non_neg y)
-  pub small : nat_abs y < 128
-  pub gives : f (nat_abs y) ≡ signed_byte z
-
--- what is below 0 is stored as 255 less its complement
-pub below_zero : (z : ℤ) → SFits w8 z → lt_z (to_z w8 (of_z w8 z)) (pos 0) ≡ true → Half z (to_z w8 (255 - of_z w8 z)) (λ n. 255 - n)
+-- its byte
+byte_is : (z : ℤ) → SFits w8 z → of_z w8 z ≡ signed_byte z
 unfolding signed_byte
-below_zero (pos k) f h = absurd (omega (arith, ltb-true k 0 (rw (to_z-of_z w8 (pos k) f) at h)))
-below_zero (negsuc k) f h =
-    let l : k < 128 = f.sfits in
-    let e : 255 - (256 - suc k) ≡ k = omega arith in
-    rw (e, lt-ltb k 128 l) (record { sign = tt; small = l; gives = refl })
-
--- and the others as they are
-pub from_zero : (z : ℤ) → SFits w8 z → lt_z (to_z w8 (of_z w8 z)) (pos 0) ≡ false → Half z (to_z w8 (of_z w8 z)) (λ n. n)
-unfolding signed_byte
-from_zero (pos k) f h = let l : k < 128 = f.sfits in rw (lt-ltb k 128 l) (record { sign = tt; small = l; gives = refl })
-from_zero (negsuc k) f h = absurd (true≢false (rw (to_z-of_z w8 (negsuc k) f) at h))
+byte_is (pos k) f = refl
+byte_is (negsuc k) f = omega arith
 
 -- ---- the sections of one value
 
@@ -97,11 +83,8 @@ test_put b c d at h first second = put_then b c d at 4 (big_endian 4 0x6E861BF0)
 
 module _ (z : ℤ) (f : SFits w8 z) where
   -- timescale and initial symbol
-  pub pair_put : (b c d : List ℕ) (at x y : ℕ) → at + 2 ≤ length b → x < 256 → y < 256 → x ≡ signed_byte (to_z w8 (of_z w8 z))
-      → c ≡ placed b at (big_endian 1 x) → d ≡ placed c (at + 1) (big_endian 1 y) → d ≡ placed b at (signed_byte z ∷ y ∷ [])
-  pair_put b c d at x y h l m e first second =
-      let s : x ≡ signed_byte z = e ∙ ap signed_byte (to_z-of_z w8 z f) in
-      put_then b c d at 1 (signed_byte z ∷ []) (y ∷ []) refl (omega arith) (first ∙ rw (one_byte x l, s)) (second ∙ rw (one_byte y m))
+  pub pair_put : (b : List ℕ) (at x y : ℕ) → at + 2 ≤ length b → x ≡ of_z w8 (to_z w8 (of_z w8 z)) → set (set b at x) (at + 1) y ≡ placed b at (signed_byte z ∷ y ∷ [])
+  pair_put b at x y h e = stored_two b at x y h ∙ rw (e, to_z-of_z w8 z f, byte_is z f)
 
   module _ (b c : List ℕ) (at initial : ℕ) (real : Bool) (first : c ≡ placed b at (signed_byte (to_z w8 (of_z w8 z)) ∷ initial ∷ [])) where
     pair_is : c ≡ placed b at (signed_byte z ∷ initial ∷ [])

@@ -38,19 +38,13 @@ pub struct Places {
 fn test_size(real: bool) -> usize
     ensures { (result ≡ (if real then 8 else 0)) × (result ≤ 8) }
 {
-    if real {
-        return 8;
-    }
-    0
+    if real { 8 } else { 0 }
 }
 
 fn tail_size(real: bool) -> usize
     ensures { (result ≡ (if real then 42 else 37)) × (result ≤ 42) }
 {
-    if real {
-        return 42;
-    }
-    37
+    if real { 42 } else { 37 }
 }
 
 pub fn placed_by(sizes: Sizes) -> Places
@@ -111,16 +105,6 @@ pub fn timescale_is_allowed(timescale: i8) -> bool
     (-21 <= timescale) & (timescale <= 2)
 }
 
-// A signed byte as it is stored.
-fn signed_byte(timescale: i8) -> u8
-    ensures { result ≡ signed_byte timescale }
-{
-    if timescale < 0 {
-        return 255 - (!timescale) as u8;
-    }
-    timescale as u8
-}
-
 // The real test.
 fn put_test(out: &mut [u8], at: usize)
     requires { at + 8 ≤ length out.old }
@@ -135,8 +119,8 @@ fn put_pair(out: &mut [u8], at: usize, timescale: i8, initial: u8)
     requires { at + 2 ≤ length out.old }
     ensures { out.new ≡ placed out.old at (signed_byte timescale ∷ initial ∷ []) }
 {
-    put::one(out, at, signed_byte(timescale) as u32);
-    put::one(out, at + 1, initial as u32);
+    out[at] = timescale.cast_unsigned();
+    out[at + 1] = initial;
 }
 
 // The timescale, the initial symbol, and where a facility is a real the real test.
@@ -164,10 +148,8 @@ fn put_items(out: &mut [u8], at: usize, values: &[u32])
     requires { (at + 5 * length values.now ≤ length out.old) × (length values.now ≤ 8) }
     ensures { out.new ≡ placed out.old at (items_from 1 values.now) }
 {
-    let mut i: usize = 0;
-    while i < values.len() {
-        put_item(out, at + 5 * i, values[i], i as u32 + 1);
-        i += 1;
+    for (i, value) in values.iter().enumerate() {
+        put_item(out, at + 5 * i, *value, i as u32 + 1);
     }
 }
 
@@ -175,10 +157,7 @@ fn put_items(out: &mut [u8], at: usize, values: &[u32])
 fn item_count(real: bool) -> usize
     ensures { (result ≡ (if real then 8 else 7)) × (result ≤ 8) }
 {
-    if real {
-        return 8;
-    }
-    7
+    if real { 8 } else { 7 }
 }
 
 // The section list.
