@@ -4,6 +4,7 @@ use native.Mathlib.Omega.{arith}
 use mathlib.Core.Path.{◌≡◌, ◌∙◌}
 use mathlib.Core.Bool.{Bool, true, false, not, ◌&&◌}
 use mathlib.Core.List.{List}
+use Rattle.std.proofs.Common.{◌⊎◌, inl, inr}
 use lib.ListN.{length, get_or}
 use lib.Seq.{slice, length-slice}
 use lib.Dec.{leb}
@@ -51,15 +52,11 @@ module _ (kind : Kind) (msb lsb : ℕ) where
   unfolding facts_by
   width_integer e = rw e
 
-  -- a real has no width
-  pub width_real : kind ≡ Real → 0 ≡ (facts_by kind msb lsb).width
+  -- a real has no width, nor has a text
+  pub width_none : (kind ≡ Real) ⊎ (kind ≡ Text) → 0 ≡ (facts_by kind msb lsb).width
   unfolding facts_by
-  width_real e = rw e
-
-  -- nor has a text
-  pub width_text : kind ≡ Text → 0 ≡ (facts_by kind msb lsb).width
-  unfolding facts_by
-  width_text e = rw e
+  width_none (inl e) = rw e
+  width_none (inr e) = rw e
 
 -- ---- a row
 

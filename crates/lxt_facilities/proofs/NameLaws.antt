@@ -3,7 +3,7 @@ use Prim.Native.Nat.{ℕ, suc, ◌+◌, ◌*◌, ◌-◌, ◌≤◌, ◌<◌, mi
 use native.Mathlib.Omega.{arith}
 use native.Mathlib.Nat.{add-zero}
 use mathlib.Core.Path.{◌≡◌, refl, sym, ap, ◌∙◌}
-use mathlib.Core.Bool.{Bool, true, false, ◌&&◌, ◌||◌, or_assoc, or-false, false≢true}
+use mathlib.Core.Bool.{Bool, true, false, ◌&&◌, ◌||◌, or_assoc, or-false}
 use mathlib.Core.List.{List, [], ◌∷◌, ◌++◌, map}
 use lib.ListN.{length, get_or, drop, length-append, length-drop}
 use lib.Seq.{slice, slice-cons, slice_empty, drop-cons, drop-drop, drop-length, length-slice}
@@ -22,7 +22,7 @@ use Rattle.lxt_written.specs.WrittenFile.{shared, name_bytes, names_from}
 use Rattle.lxt_written.specs.Writing.{no_zero, name_allowed, facts_for, facility_allowed}
 use Rattle.lxt_written.specs.Stands.{length_big_endian}
 use Rattle.lxt_written.specs.TableSizes.{name_long}
-use Rattle.lxt_facilities.specs.Rows.{names_in, facilities_allowed, FacilitiesMeasured, with_prefix}
+use Rattle.lxt_facilities.specs.Rows.{names_in, facilities_allowed, FacilitiesFound, with_prefix}
 use Rattle.lxt_facilities.proofs.FacilityLaws.{row_allowed, part_long}
 use Rattle.lxt_pack.proofs.PutLaws.{Filling, fill_begun, fill_turn, fill_ended}
 
@@ -83,7 +83,7 @@ module _ {names : List ℕ} {before held at size most k : ℕ} (w : Comparing na
       (sym (add-zero k) ∙ e, omega arith)
 
   -- one of the names ends
-  pub compare_ended : most ≤ k → (k ≡ shared (part names before held) (part names at size)) × (k ≤ size)
+  compare_ended : most ≤ k → (k ≡ shared (part names before held) (part names at size)) × (k ≤ size)
   unfolding shared
   compare_ended h =
       let l = w.least in
@@ -98,6 +98,9 @@ module _ {names : List ℕ} {before held at size most k : ℕ} (w : Comparing na
       rw (none, shared_none (slice (before + k) (before + held) names)) at w.left in
       let e : k + 0 ≡ shared (part names before held) (part names at size) = elim (dec_le held k) [ yes g ↦ by-held g | no g ↦ by_size (omega arith) ] in
       (sym (add-zero k) ∙ e, omega arith)
+
+  pub compare_all : most ≤ k → (most ≡ shared (part names before held) (part names at size)) × (most ≤ size)
+  compare_all h = let e : most ≡ k = omega (arith, w.upto) in rw e (compare_ended h)
 
 -- ---- one name
 
@@ -222,18 +225,11 @@ module _ (rows : List (List ℕ)) (names : List ℕ) (f : ℕ) (h : f < length r
 module _ {rows : List (List ℕ)} {names : List ℕ} {size memory : ℕ} {real : Bool} {before held f : ℕ} (w : Measuring rows names size memory real before held f) where
   module _ (h : f < length rows) {ok : Bool} (eo : ok ≡ row_allowed names (get_or rows f [])) where
     -- a row is not allowed
-    pub measure_stop : ok ≡ false → FacilitiesMeasured names rows (record { sound = false; size = 0; memory = 0; real = false })
+    pub measure_stop : ok ≡ false → facilities_allowed names rows ≡ false
     measure_stop n =
         let bad : row_allowed names (get_or rows f []) ≡ false = sym eo ∙ n in
         let none : false ≡ facilities_allowed names rows = rw (bad) at (sym (allowed_next rows names f h) ∙ w.allowed) in
-        record {
-          sound = none;
-          size = λ e. absurd (false≢true e);
-          memory = λ e. absurd (false≢true e);
-          real = λ e. absurd (false≢true e);
-          size_most = omega arith;
-          memory_most = omega arith;
-        }
+        sym none
 
     -- a row that is allowed keeps what is asked of its name
     pub kept_here : ok ≡ true → RowKept names (get_or rows f [])
@@ -271,7 +267,7 @@ module _ {rows : List (List ℕ)} {names : List ℕ} {size memory : ℕ} {real :
         }
 
   -- all rows are measured
-  pub measure_ended : length rows ≤ f → FacilitiesMeasured names rows (record { sound = true; size = size; memory = memory; real = real })
+  pub measure_ended : length rows ≤ f → FacilitiesFound names rows (record { size = size; memory = memory; real = real })
   unfolding facilities_allowed all any memory_of names_from
   measure_ended h =
       let none = rows_none rows f w.upto h in
@@ -279,10 +275,10 @@ module _ {rows : List (List ℕ)} {names : List ℕ} {size memory : ℕ} {real :
       let m : memory + 0 ≡ memory_of (names_in names rows) = rw none at w.sum in
       let r : (real || false) ≡ any_real names rows = rw none at w.reals in
       record {
-        sound = rw none at w.allowed;
-        size = λ _. sym (add-zero size) ∙ b;
-        memory = λ _. sym (add-zero memory) ∙ m;
-        real = λ _. sym (or-false real) ∙ r;
+        sound = sym (rw none at w.allowed);
+        size = sym (add-zero size) ∙ b;
+        memory = sym (add-zero memory) ∙ m;
+        real = sym (or-false real) ∙ r;
         size_most = omega (arith, w.size_most);
         memory_most = omega (arith, w.memory_most);
       }

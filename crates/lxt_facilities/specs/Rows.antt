@@ -1,5 +1,5 @@
 -- What the functions over the rows of the two tables answer and ask.
-use Rattle.std.specs.Prelude.{ℕ, ◌*◌, ◌≤◌, ◌≡◌, Bool, true, ◌&&◌, List, [], ◌∷◌, ◌++◌, map, length, drop}
+use Rattle.std.specs.Prelude.{ℕ, ◌*◌, ◌≤◌, ◌≡◌, Bool, true, false, ◌&&◌, Option, Some, None, List, [], ◌∷◌, ◌++◌, map, length, drop}
 use Rattle.lxt_format.specs.Basics.{all, any}
 use Rattle.lxt_format.specs.Names.{memory_of}
 use Rattle.lxt_format.specs.Reals.{is_real}
@@ -17,14 +17,19 @@ names_in names rows = map (λ f. f.name) (map (facility_of names) rows)
 unfoldable pub facilities_allowed : List ℕ → List (List ℕ) → Bool
 facilities_allowed names rows = all (λ row. facility_row_allowed names row && facility_allowed (facility_of names row)) rows
 
--- the first pass over the facilities: whether all are allowed, and then what their names take, M, and whether one is a real
-pub record FacilitiesMeasured (names : List ℕ) (rows : List (List ℕ)) (m : Measured) : Type 0 where
-  pub sound : m.sound ≡ facilities_allowed names rows
-  pub size : m.sound ≡ true → m.size ≡ length (names_from [] (names_in names rows))
-  pub memory : m.sound ≡ true → m.memory ≡ memory_of (names_in names rows)
-  pub real : m.sound ≡ true → m.real ≡ any (λ f. is_real f.kind) (map (facility_of names) rows)
+-- the first pass over facilities that are all allowed: what their names take, M, and whether one is a real
+pub record FacilitiesFound (names : List ℕ) (rows : List (List ℕ)) (m : Measured) : Type 0 where
+  pub sound : facilities_allowed names rows ≡ true
+  pub size : m.size ≡ length (names_from [] (names_in names rows))
+  pub memory : m.memory ≡ memory_of (names_in names rows)
+  pub real : m.real ≡ any (λ f. is_real f.kind) (map (facility_of names) rows)
   pub size_most : m.size ≤ 1026 * length rows
   pub memory_most : m.memory ≤ 1024 * length rows
+
+-- it finds nothing exactly where one is not allowed
+abbrev pub FacilitiesMeasured : List ℕ → List (List ℕ) → Option Measured → Type 0
+FacilitiesMeasured names rows (Some m) = FacilitiesFound names rows m
+FacilitiesMeasured names rows None = facilities_allowed names rows ≡ false
 
 -- a name with a prefix of k bytes of the name before
 abbrev pub with_prefix : ℕ → List ℕ → List ℕ

@@ -23,16 +23,12 @@ pub const LSB: usize = 4;
 pub fn kind_of(code: u32) -> Kind
     ensures { result ≡ kind_of_code code }
 {
-    if code == 1 {
-        return Kind::Integer;
+    match code {
+        1 => Kind::Integer,
+        2 => Kind::Real,
+        3 => Kind::Text,
+        _ => Kind::Bits,
     }
-    if code == 2 {
-        return Kind::Real;
-    }
-    if code == 3 {
-        return Kind::Text;
-    }
-    Kind::Bits
 }
 
 // The width of a facility.
@@ -42,8 +38,7 @@ pub fn width_of(kind: Kind, msb: u32, lsb: u32) -> u64
     match kind {
         Kind::Bits => geometry::width_between(msb, lsb),
         Kind::Integer => 32,
-        Kind::Real => 0,
-        Kind::Text => 0,
+        Kind::Real | Kind::Text => 0,
     }
 }
 

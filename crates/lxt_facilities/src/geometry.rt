@@ -29,8 +29,7 @@ fn msb_of(kind: Kind, msb: u32) -> u32
     match kind {
         Kind::Bits => msb,
         Kind::Integer => 31,
-        Kind::Real => 0,
-        Kind::Text => 0,
+        Kind::Real | Kind::Text => 0,
     }
 }
 
@@ -39,9 +38,7 @@ fn lsb_of(kind: Kind, lsb: u32) -> u32
 {
     match kind {
         Kind::Bits => lsb,
-        Kind::Integer => 0,
-        Kind::Real => 0,
-        Kind::Text => 0,
+        Kind::Integer | Kind::Real | Kind::Text => 0,
     }
 }
 
@@ -63,11 +60,9 @@ pub fn put_all(facilities: &[[u32; 5]], out: &mut [u8], at: usize)
     ensures { out.new ≡ placed out.old at (joined geometry_bytes (map (facility_of []) facilities.now)) }
 {
     let mut p = at;
-    let mut f: usize = 0;
-    while f < facilities.len() {
-        put_row(facilities[f], out, p);
+    for row in facilities {
+        put_row(*row, out, p);
         p += 16;
-        f += 1;
     }
 }
 
@@ -77,10 +72,8 @@ pub fn put_sync(last: &[u32], out: &mut [u8], at: usize)
     ensures { out.new ≡ placed out.old at (joined (big_endian 4) last.now) }
 {
     let mut p = at;
-    let mut f: usize = 0;
-    while f < last.len() {
-        put::four(out, p, last[f]);
+    for offset in last {
+        put::four(out, p, *offset);
         p += 4;
-        f += 1;
     }
 }

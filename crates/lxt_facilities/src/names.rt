@@ -1,5 +1,5 @@
 // Section 03: the names, each with the longest prefix that it shares with the name before.
-ghost use Rattle.std.specs.Prelude.{◌≡◌, true, [], ◌+◌, ◌-◌, ◌≤◌, min, length};
+ghost use Rattle.std.specs.Prelude.{◌≡◌, true, [], ◌+◌, ◌-◌, ◌≤◌, length};
 ghost use Rattle.lxt_format.specs.Buffers.{placed};
 ghost use Rattle.lxt_written.specs.Input.{part};
 ghost use Rattle.lxt_written.specs.WrittenFile.{shared, names_from};
@@ -9,41 +9,30 @@ use crate::facilities;
 use crate::facilities::{KIND, NAME_LENGTH, NAME_START};
 use lxt_pack::put;
 
-fn lesser(a: usize, b: usize) -> usize
-    ensures { result ≡ min a b }
-{
-    if a < b { a } else { b }
-}
-
 // How many bytes two parts of the pool share at their starts.
 fn shared(names: &[u8], before: usize, held: usize, at: usize, size: usize) -> usize
     requires { (before + held ≤ length names.now) × (at + size ≤ length names.now) }
     ensures { (result ≡ shared (part names.now before held) (part names.now at size)) × (result ≤ size) }
 {
-    let most = lesser(held, size);
-    let mut k: usize = 0;
-    while k < most {
-        let x = names[before + k];
-        let y = names[at + k];
-        if x != y {
+    let most = held.min(size);
+    for k in 0..most {
+        if names[before + k] != names[at + k] {
             return k;
         }
-        k += 1;
     }
-    k
+    most
 }
 
-// What the first pass finds: whether every facility is allowed, the bytes of all names as they are
-// written, the memory M, and whether a facility is a real.
+// What the first pass finds where every facility is allowed: the bytes of all names as they are written, the
+// memory M, and whether a facility is a real.
 #[derive(Clone, Copy)]
 pub struct Measured {
-    pub sound: bool,
     pub size: usize,
     pub memory: usize,
     pub real: bool,
 }
 
-pub fn measure(facilities: &[[u32; 5]], names: &[u8]) -> Measured
+pub fn measure(facilities: &[[u32; 5]], names: &[u8]) -> Option<Measured>
     requires { length facilities.now ≤ 4096 }
     ensures { FacilitiesMeasured names.now facilities.now result }
 {
@@ -52,16 +41,9 @@ pub fn measure(facilities: &[[u32; 5]], names: &[u8]) -> Measured
     let mut real = false;
     let mut before: usize = 0;
     let mut held: usize = 0;
-    let mut f: usize = 0;
-    while f < facilities.len() {
-        let row = facilities[f];
-        if !facilities::allowed(names, row) {
-            return Measured {
-                sound: false,
-                size: 0,
-                memory: 0,
-                real: false,
-            };
+    for row in facilities {
+        if !facilities::allowed(names, *row) {
+            return None;
         }
         let at = row[NAME_START] as usize;
         let length = row[NAME_LENGTH] as usize;
@@ -71,14 +53,8 @@ pub fn measure(facilities: &[[u32; 5]], names: &[u8]) -> Measured
         real = real | (row[KIND] == 2);
         before = at;
         held = length;
-        f += 1;
     }
-    Measured {
-        sound: true,
-        size,
-        memory,
-        real,
-    }
+    Some(Measured { size, memory, real })
 }
 
 // One name.
@@ -99,9 +75,7 @@ pub fn put_all(facilities: &[[u32; 5]], names: &[u8], out: &mut [u8], at: usize)
     let mut p = at;
     let mut before: usize = 0;
     let mut held: usize = 0;
-    let mut f: usize = 0;
-    while f < facilities.len() {
-        let row = facilities[f];
+    for row in facilities {
         let start = row[NAME_START] as usize;
         let size = row[NAME_LENGTH] as usize;
         let k = shared(names, before, held, start, size);
@@ -109,6 +83,5 @@ pub fn put_all(facilities: &[[u32; 5]], names: &[u8], out: &mut [u8], at: usize)
         p += 3 + (size - k);
         before = start;
         held = size;
-        f += 1;
     }
 }

@@ -145,17 +145,6 @@ time_at values [] i = refl
 time_at values (row ∷ changes) zero = refl
 time_at values (row ∷ changes) (suc i) = time_at values changes i
 
--- without a change both times are 0
-pub first_none : (changes : List (List ℕ)) → length changes ≡ 0 → 0 ≡ first_of changes
-unfolding first_of
-first_none [] e = refl
-first_none (row ∷ changes) e = absurd (omega arith)
-
-pub final_none : (changes : List (List ℕ)) → length changes ≡ 0 → 0 ≡ final_of changes
-unfolding final_of
-final_none [] e = refl
-final_none (row ∷ changes) e = absurd (omega arith)
-
 -- ---- the whole file
 
 module _ (facilities : List (List ℕ)) (names : List ℕ) (changes : List (List ℕ)) (values : List ℕ) (initial : ℕ) (timescale : ℤ)

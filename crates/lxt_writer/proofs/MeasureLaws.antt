@@ -1,10 +1,10 @@
 -- Laws of the first pass over the changes.
-use Rattle.std.specs.Prelude.{if◌then◌else◌}
+use mir.Val.{bool_byte}
 use Prim.Native.Nat.{ℕ, ◌+◌, ◌-◌, ◌≤◌, ◌<◌}
 use native.Mathlib.Omega.{arith}
 use native.Mathlib.Nat.{add-zero, zero-add, add_assoc}
 use mathlib.Core.Path.{◌≡◌, refl, sym, ap, ◌∙◌}
-use mathlib.Core.Bool.{Bool, true, false, not, ◌&&◌, true≢false, and-false}
+use mathlib.Core.Bool.{Bool, true, false, not, ◌&&◌, and-false}
 use mathlib.Core.List.{List, [], ◌∷◌, map}
 use lib.ListN.{length, get_or, drop, set, length-append}
 use lib.Dec.{leb, eqb}
@@ -18,9 +18,8 @@ use Rattle.lxt_written.specs.WrittenChanges.{last_of, Laid, pair_of, lay_at, lay
 use Rattle.lxt_written.specs.WrittenFile.{new_times_after, entries_of}
 use Rattle.lxt_written.specs.Writing.{value_of_allowed, changes_allowed}
 use Rattle.lxt_facilities.proofs.NameLaws.{rows_next, rows_none}
-use Rattle.lxt_writer.specs.declared.changes.Measured.{Measured}
 use Rattle.lxt_writer.specs.Changes.{nameless, lay_rows, end_from, sound_from, Fresh, row_allowed, row_bytes, RowSized, is_new, entries_left}
-use Rattle.lxt_writer.specs.Changes.{ChangesMeasured, Measuring}
+use Rattle.lxt_writer.specs.Changes.{ChangesFound, Measuring}
 use Rattle.lxt_writer.proofs.RowLaws.{row_known, row_laid, row_long, row_newest}
 
 -- ---- rows one after the other
@@ -94,12 +93,17 @@ module _ (o time : ℕ) (l : Laid) (ls : List Laid) where
       rw (neither.0, q, n, e)
 
   -- how many there are
-  entry_counted : (p k : ℕ) → 4 < p → k ≡ (if is_new o time l.time then 1 else 0)
+  entry_counted : (p k : ℕ) → 4 < p → k ≡ bool_byte (is_new o time l.time)
       → length (entries_left o time (l ∷ ls)) ≡ k + length (entries_left p l.time ls)
   entry_counted p k above e =
       on_test (is_new o time l.time)
       (λ y. let q : k ≡ 1 = e ∙ rw y in let n = ap length (entry_new y p above) in omega arith)
       (λ y. let q : k ≡ 0 = e ∙ rw y in let n = ap length (entry_old y p above) in omega arith)
+
+-- at most one
+pub at_most_one : (b : Bool) (k : ℕ) → k ≡ bool_byte b → k ≤ 1
+at_most_one true k e = omega arith
+at_most_one false k e = omega arith
 
 -- where no change is left, no entry is
 pub entries_none : (o time : ℕ) → entries_left o time [] ≡ []
@@ -152,12 +156,12 @@ module _ (rows changes : List (List ℕ)) (values : List ℕ) where
       sound_here = m.sound ∙ rw (rows_next changes i h) (sound_next rows values o m.before (get_or changes i []) (drop (i + 1) changes) time)
 
       -- its time falls
-      pub time_falls : get_or (get_or changes i []) 1 0 < time → false ≡ sound_from rows values 4 [] 0 changes
+      pub time_falls : get_or (get_or changes i []) 1 0 < time → sound_from rows values 4 [] 0 changes ≡ false
       unfolding next
-      time_falls falls = sym (sound_here ∙ rw (lt-leb time (get_or (get_or changes i []) 1 0) falls))
+      time_falls falls = sound_here ∙ rw (lt-leb time (get_or (get_or changes i []) 1 0) falls)
 
       -- it is not allowed, or passes the end of the longest file
-      pub row_refused : (r : ℕ) → RowSized rows (get_or changes i []) values last o r → longest_file < o + r → false ≡ sound_from rows values 4 [] 0 changes
+      pub row_refused : (r : ℕ) → RowSized rows (get_or changes i []) values last o r → longest_file < o + r → sound_from rows values 4 [] 0 changes ≡ false
       unfolding next step sound_from
       row_refused r sized long =
           on_test (row_allowed rows next values)
@@ -165,16 +169,17 @@ module _ (rows changes : List (List ℕ)) (values : List ℕ) where
           let size : r ≡ length (row_bytes rows next values last o) = sized.size y in
           let bytes = ap length (row_laid rows next values last m.before o m.laying y) in
           let past : longest_file < end_from rows values (o + length step.bytes) (pair_of step ∷ m.before) (drop (i + 1) changes) = omega arith in
-          sym (sound_here ∙ rw (lt-leb _ _ past, and-false, and-false, and-false)))
-          (λ y. sym (sound_here ∙ rw (y, and-false)))
+          sound_here ∙ rw (lt-leb _ _ past, and-false, and-false, and-false))
+          (λ y. sound_here ∙ rw (y, and-false))
 
       -- it is laid
       pub measure_turn : time ≤ get_or (get_or changes i []) 1 0 → (r k : ℕ) → RowSized rows (get_or changes i []) values last o r → o + r ≤ longest_file
-          → k ≡ (if is_new o time (get_or (get_or changes i []) 1 0) then 1 else 0) → k ≤ 1 → (f : ℕ) → f ≡ get_or (get_or changes i []) 0 0
+          → k ≡ bool_byte (is_new o time (get_or (get_or changes i []) 1 0)) → (f : ℕ) → f ≡ get_or (get_or changes i []) 0 0
           → Measuring rows changes values (i + 1) (o + r) (get_or (get_or changes i []) 1 0) (entries + k) (set last f o)
       unfolding next step lay_at change_of
-      measure_turn rises r k sized short counted one f ef =
+      measure_turn rises r k sized short counted f ef =
           let row : List ℕ = get_or changes i [] in
+          let one = at_most_one (is_new o time (get_or row 1 0)) k counted in
           let allowed : row_allowed rows row values ≡ true = sized.allowed (omega arith) in
           let size : r ≡ length (row_bytes rows row values last o) = sized.size allowed in
           let some = row_long rows row values last m.before o m.laying allowed in
@@ -198,27 +203,15 @@ module _ (rows changes : List (List ℕ)) (values : List ℕ) where
           }
 
     -- all are laid
-    pub measure_ended : length changes ≤ i → ChangesMeasured rows changes values (record { sound = true; end = o; entries = entries })
+    pub measure_ended : length changes ≤ i → ChangesFound rows changes values (record { end = o; entries = entries })
     unfolding sound_from changes_allowed all lay_from joined
     measure_ended h =
         let none : drop i changes ≡ [] = rows_none changes i m.upto h in
         let short : o + 0 ≤ longest_file = omega (arith, m.laying.free.most) in
         record {
-          sound = sym (m.sound ∙ rw (none, le-leb (o + 0) longest_file short));
-          end = λ y. sym (m.end ∙ rw none (add-zero o));
-          end_most = λ y. m.laying.free.most;
-          entries = λ y. sym (m.left ∙ rw (none, entries_none o time) (add-zero entries));
-          entries_most = λ y. omega (arith, m.few, m.laying.free.most);
+          sound = m.sound ∙ rw (none, le-leb (o + 0) longest_file short);
+          end = sym (m.end ∙ rw none (add-zero o));
+          end_most = m.laying.free.most;
+          entries = sym (m.left ∙ rw (none, entries_none o time) (add-zero entries));
+          entries_most = omega (arith, m.few, m.laying.free.most);
         }
-
-  -- something is not allowed
-  pub measure_refused : (r : Measured) → false ≡ sound_from rows values 4 [] 0 changes → r.sound ≡ false → ChangesMeasured rows changes values r
-  measure_refused r e n =
-      let no : r.sound ≡ true → ⊥ = λ y. true≢false (sym y ∙ n) in
-      record {
-        sound = n ∙ e;
-        end = λ y. absurd (no y);
-        end_most = λ y. absurd (no y);
-        entries = λ y. absurd (no y);
-        entries_most = λ y. absurd (no y);
-      }

@@ -2,13 +2,13 @@
 use Prim.Native.Nat.{ℕ, zero, suc, ◌+◌, ◌≤◌}
 use native.Mathlib.Omega.{arith}
 use mathlib.Core.Path.{◌≡◌, refl, sym, ap, ◌∙◌}
-use mathlib.Core.Bool.{Bool, true, false, not, ◌&&◌, true≢false, and-false}
+use mathlib.Core.Bool.{Bool, true, false, ◌&&◌, true≢false, and-false}
 use mathlib.Core.List.{List, [], ◌∷◌, ◌++◌, map}
 use lib.ListN.{length, get_or, take, replicate, length-append, length-map, length-replicate}
 use lib.Seq.{length-take-le}
 use lib.IntN.{ℤ}
 use lib.Dec.{leb}
-use borrow.Author.Tests.{leb-true, le-leb, not-true, not-false}
+use borrow.Author.Tests.{leb-true, le-leb}
 use Rattle.lxt_format.specs.Limits.{longest_file, most_facilities}
 use Rattle.lxt_format.specs.Basics.{all, joined}
 use Rattle.lxt_format.specs.BasicsLaws.{on_test, and_both, both_and}
@@ -22,11 +22,11 @@ use Rattle.lxt_layout.specs.declared.Sizes.{Sizes}
 use Rattle.lxt_layout.specs.declared.Places.{Places}
 use Rattle.lxt_layout.specs.Layout.{Bounded, PlacesFor, Measures}
 use Rattle.lxt_layout.proofs.WholeLaws.{file_long}
-use Rattle.lxt_facilities.specs.Rows.{facilities_allowed, FacilitiesMeasured}
+use Rattle.lxt_facilities.specs.Rows.{facilities_allowed, FacilitiesFound}
 use Rattle.lxt_facilities.specs.declared.names.Measured.{Measured as Facilities}
 use Rattle.lxt_writer.specs.declared.changes.Measured.{Measured as Changes}
 use Rattle.lxt_writer.specs.declared.plan.Plan.{Plan}
-use Rattle.lxt_writer.specs.Changes.{nameless, Widths, lay_rows, end_from, sound_from, Fresh, ChangesMeasured}
+use Rattle.lxt_writer.specs.Changes.{nameless, Widths, lay_rows, end_from, sound_from, Fresh, ChangesFound}
 use Rattle.lxt_writer.specs.Plan.{Planned}
 
 -- ---- a table of zeros
@@ -206,13 +206,11 @@ module _ (facilities : List (List ℕ)) (names : List ℕ) (changes : List (List
   pub values_refused : (b : Bool) → b ≡ values_allowed → b ≡ false → input_allowed facilities names changes values initial timescale ≡ false
   values_refused b e n = input_parts ∙ rw (sym e ∙ n)
 
-  pub facilities_refused : (m : Facilities) → FacilitiesMeasured names facilities m → not m.sound ≡ true
-      → input_allowed facilities names changes values initial timescale ≡ false
-  facilities_refused m f n = input_parts ∙ rw (sym f.sound ∙ not-true m.sound n) (and-false values_allowed)
+  pub facilities_refused : facilities_allowed names facilities ≡ false → input_allowed facilities names changes values initial timescale ≡ false
+  facilities_refused n = input_parts ∙ rw n (and-false values_allowed)
 
-  pub changes_refused : (m : Changes) → ChangesMeasured facilities changes values m → not m.sound ≡ true
-      → input_allowed facilities names changes values initial timescale ≡ false
-  changes_refused m c n =
+  pub changes_refused : sound_from facilities values 4 [] 0 changes ≡ false → input_allowed facilities names changes values initial timescale ≡ false
+  changes_refused n =
       on_test (input_allowed facilities names changes values initial timescale)
       (λ y.
       let all_of = rw input_parts at y in
@@ -220,7 +218,7 @@ module _ (facilities : List (List ℕ)) (names : List ℕ) (changes : List (List
       let last = (and_both (facilities_allowed names facilities) (changes_sound && leb (length (file_of trace)) longest_file) later).1 in
       let both = and_both changes_sound (leb (length (file_of trace)) longest_file) last in
       let s = sound_of both.0 (leb-true _ _ both.1) in
-      absurd (true≢false (sym s ∙ sym c.sound ∙ not-true m.sound n)))
+      absurd (true≢false (sym s ∙ n)))
       (λ y. y)
 
   -- ---- where all is allowed but for the length of the file
@@ -229,14 +227,11 @@ module _ (facilities : List (List ℕ)) (names : List ℕ) (changes : List (List
     pub count_small : length facilities ≤ most_facilities
     count_small = count_of (sym vb ∙ vn)
 
-    module _ (f : Facilities) (fm : FacilitiesMeasured names facilities f) (fn : not f.sound ≡ false) where
-      facilities_yes : facilities_allowed names facilities ≡ true
-      facilities_yes = sym fm.sound ∙ not-false f.sound fn
-
+    module _ (f : Facilities) (fm : FacilitiesFound names facilities f) where
       pub widths_small : Widths facilities
-      widths_small = widths_of_lem names facilities facilities_yes
+      widths_small = widths_of_lem names facilities fm.sound
 
-      module _ (c : Changes) (cm : ChangesMeasured facilities changes values c) (cn : not c.sound ≡ false) where
+      module _ (c : Changes) (cm : ChangesFound facilities changes values c) where
         -- the sizes that are found
         abbrev sizes : Sizes
         sizes = record { facilities = length facilities; names = f.size; changes = c.end; entries = c.entries; real = f.real }
@@ -244,26 +239,23 @@ module _ (facilities : List (List ℕ)) (names : List ℕ) (changes : List (List
         -- they are small enough for the code's numbers, and those of the trace's file
         pub sizes_bounded : Bounded sizes
         sizes_bounded =
-            let y = not-false c.sound cn in
             let n = count_small in
             record {
               facilities = n;
               names = omega (arith, fm.size_most);
-              changes = cm.end_most y;
-              entries = cm.entries_most y;
+              changes = cm.end_most;
+              entries = cm.entries_most;
             }
 
         sizes_measure : Measures trace sizes
         unfolding names_of any_real
         sizes_measure =
-            let y = not-false c.sound cn in
-            let z = not-false f.sound fn in
             record {
               facilities = sym (length-map facilities (facility_of names));
-              names = fm.size z;
-              changes = cm.end y ∙ changes_end_lem;
-              entries = cm.entries y ∙ ap (λ ls. length (entries_of ls)) (sym laid_rows);
-              real = fm.real z;
+              names = fm.size;
+              changes = cm.end ∙ changes_end_lem;
+              entries = cm.entries ∙ ap (λ ls. length (entries_of ls)) (sym laid_rows);
+              real = fm.real;
             }
 
         -- the input is allowed where the file is short enough
@@ -271,14 +263,13 @@ module _ (facilities : List (List ℕ)) (names : List ℕ) (changes : List (List
             → Planned facilities names changes values initial timescale (record { sound = leb p.length longest_file; sizes = sizes; memory = f.memory })
         unfolding names_of
         planned p pf =
-            let z = not-false f.sound fn in
             let n = count_small in
-            let cs : changes_sound ≡ true = sound_parts (sym cm.sound ∙ not-false c.sound cn) in
+            let cs : changes_sound ≡ true = sound_parts cm.sound in
             record {
-              sound = sym (input_parts ∙ rw (sym vb ∙ vn, facilities_yes, cs, ← file_long trace sizes p sizes_measure pf));
+              sound = sym (input_parts ∙ rw (sym vb ∙ vn, fm.sound, cs, ← file_long trace sizes p sizes_measure pf));
               sizes = λ y. sizes_measure;
               bounded = λ y. sizes_bounded;
-              memory = λ y. fm.memory z;
+              memory = λ y. fm.memory;
               memory_most = λ y. omega (arith, fm.memory_most);
             }
 

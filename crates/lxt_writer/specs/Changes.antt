@@ -1,5 +1,5 @@
 -- What the functions over the rows of changes answer and ask. `rows` are those of the facilities, `row` is one of a change.
-use Rattle.std.specs.Prelude.{ℕ, ◌+◌, ◌*◌, ◌-◌, ◌≤◌, ◌<◌, ◌≡◌, Bool, true, false, not, ◌&&◌, ◌||◌, length, get_or, drop, leb, eqb, if◌then◌else◌}
+use Rattle.std.specs.Prelude.{ℕ, ◌+◌, ◌*◌, ◌-◌, ◌≤◌, ◌<◌, ◌≡◌, Bool, true, false, Option, Some, None, not, ◌&&◌, ◌||◌, length, get_or, drop, leb, eqb, if◌then◌else◌}
 use mathlib.Core.List.{List, [], ◌++◌, map, reverse, reverse_aux}
 use Rattle.lxt_format.specs.Limits.{longest_file, widest_facility}
 use Rattle.lxt_format.specs.Basics.{all, joined}
@@ -88,12 +88,18 @@ entries_left o time ls = if eqb o 4 then entries_of ls else new_times_after time
 
 -- ---- the first pass
 
-pub record ChangesMeasured (rows changes : List (List ℕ)) (values : List ℕ) (m : Measured) : Type 0 where
-  pub sound : m.sound ≡ sound_from rows values 4 [] 0 changes
-  pub end : m.sound ≡ true → m.end ≡ end_from rows values 4 [] changes
-  pub end_most : m.sound ≡ true → m.end ≤ longest_file
-  pub entries : m.sound ≡ true → m.entries ≡ length (entries_of (lay_rows rows values 4 [] changes))
-  pub entries_most : m.sound ≡ true → m.entries ≤ longest_file
+-- of changes that are allowed and end within the longest file
+pub record ChangesFound (rows changes : List (List ℕ)) (values : List ℕ) (m : Measured) : Type 0 where
+  pub sound : sound_from rows values 4 [] 0 changes ≡ true
+  pub end : m.end ≡ end_from rows values 4 [] changes
+  pub end_most : m.end ≤ longest_file
+  pub entries : m.entries ≡ length (entries_of (lay_rows rows values 4 [] changes))
+  pub entries_most : m.entries ≤ longest_file
+
+-- of others it finds nothing
+abbrev pub ChangesMeasured : List (List ℕ) → List (List ℕ) → List ℕ → Option Measured → Type 0
+ChangesMeasured rows changes values (Some m) = ChangesFound rows changes values m
+ChangesMeasured rows changes values None = sound_from rows values 4 [] 0 changes ≡ false
 
 -- after i changes: what is left gives what the whole gives
 pub record Measuring (rows changes : List (List ℕ)) (values : List ℕ) (i o time entries : ℕ) (last : List ℕ) : Type 0 where

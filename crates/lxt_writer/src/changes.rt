@@ -57,32 +57,12 @@ fn is_new(at: usize, before: u32, time: u32) -> bool
     (at == FIRST) | (time != before)
 }
 
-fn one_if(b: bool) -> usize
-    ensures { (result ≡ (if b then 1 else 0)) × (result ≤ 1) }
-{
-    if b {
-        return 1;
-    }
-    0
-}
-
-// What the first pass finds: whether all is allowed and short enough, the offset after the last change, and
-// the entries of the time table.
+// What the first pass finds where all is allowed and short enough: the offset after the last change, and the
+// entries of the time table.
 #[derive(Clone, Copy)]
 pub struct Measured {
-    pub sound: bool,
     pub end: usize,
     pub entries: usize,
-}
-
-fn refused() -> Measured
-    ensures { result.sound ≡ false }
-{
-    Measured {
-        sound: false,
-        end: 0,
-        entries: 0,
-    }
 }
 
 // `last` has a number for each facility, all 0.
@@ -91,35 +71,28 @@ pub fn measure(
     changes: &[[u32; 4]],
     values: &[u8],
     last: &mut [u32],
-) -> Measured
+) -> Option<Measured>
     requires { Widths facilities.now × Fresh last.old (length facilities.now) }
     ensures { ChangesMeasured facilities.now changes.now values.now result }
 {
     let mut at: usize = FIRST;
     let mut time: u32 = 0;
     let mut entries: usize = 0;
-    let mut i: usize = 0;
-    while i < changes.len() {
-        let row = changes[i];
-        let f = facility_of(row);
+    for row in changes {
+        let f = facility_of(*row);
         if row[TIME] < time {
-            return refused();
+            return None;
         }
-        let size = row_size(facilities, row, values, last, at);
+        let size = row_size(facilities, *row, values, last, at);
         if File::LONGEST - at < size {
-            return refused();
+            return None;
         }
-        entries += one_if(is_new(at, time, row[TIME]));
+        entries += usize::from(is_new(at, time, row[TIME]));
         last[f] = at as u32;
         at += size;
         time = row[TIME];
-        i += 1;
     }
-    Measured {
-        sound: true,
-        end: at,
-        entries,
-    }
+    Some(Measured { end: at, entries })
 }
 
 // ---- the second pass
@@ -140,11 +113,10 @@ fn put_entry(out: &mut [u8], e: Entry, gap: usize, at: usize, time: u32) -> Entr
     if !is_new(at, e.time, time) {
         return e;
     }
-    let place = e.at;
-    put::four(out, place, (at - e.position) as u32);
-    put::four(out, place + gap, time - e.time);
+    put::four(out, e.at, (at - e.position) as u32);
+    put::four(out, e.at + gap, time - e.time);
     Entry {
-        at: place + 4,
+        at: e.at + 4,
         position: at,
         time,
     }
@@ -197,13 +169,10 @@ pub fn put_all(
         position: 0,
         time: 0,
     };
-    let mut i: usize = 0;
-    while i < changes.len() {
-        let row = changes[i];
+    for row in changes {
         e = put_entry(out, e, gap, at, row[TIME]);
-        let next = put_row(facilities, row, values, last, out, at);
-        last[facility_of(row)] = at as u32;
+        let next = put_row(facilities, *row, values, last, out, at);
+        last[facility_of(*row)] = at as u32;
         at = next;
-        i += 1;
     }
 }

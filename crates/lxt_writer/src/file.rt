@@ -17,20 +17,13 @@ use lxt_layout::{Places, Sizes};
 fn first_time(changes: &[[u32; 4]]) -> u32
     ensures { result ≡ first_of changes.now }
 {
-    if changes.len() == 0 {
-        return 0;
-    }
-    changes[0][TIME]
+    changes.first().map_or(0, |row| row[TIME])
 }
 
 fn last_time(changes: &[[u32; 4]]) -> u32
     ensures { result ≡ final_of changes.now }
 {
-    let n = changes.len();
-    if n == 0 {
-        return 0;
-    }
-    changes[n - 1][TIME]
+    changes.last().map_or(0, |row| row[TIME])
 }
 
 // What follows the changes: names, geometry, sync and the head of the times.
@@ -81,8 +74,6 @@ fn put_parts(
     ensures { out.new ≡ onto (file_of (trace_of facilities.now names.now changes.now values.now initial timescale)) out.old }
 {
     let p = lxt_layout::placed_by(sizes);
-    let entries = sizes.entries;
-    let real = sizes.real;
     changes::put_all(
         facilities,
         changes,
@@ -90,7 +81,7 @@ fn put_parts(
         last,
         out,
         p.times + 12,
-        4 * entries,
+        4 * sizes.entries,
     );
     lxt_layout::put_header(out);
     put_tables(
@@ -98,13 +89,13 @@ fn put_parts(
         names,
         memory,
         last,
-        entries as u32,
+        sizes.entries as u32,
         first_time(changes),
         last_time(changes),
         out,
         p,
     );
-    put_end(timescale, initial, real, out, p);
+    put_end(timescale, initial, sizes.real, out, p);
 }
 
 // The file, at the start of the buffer.
@@ -123,7 +114,6 @@ pub fn put_file(
     ensures { out.new ≡ onto (file_of (trace_of facilities.now names.now changes.now values.now initial timescale)) out.old }
 {
     let mut last = [0u32; Summary::MOST_FACILITIES as usize];
-    let n = facilities.len();
     put_parts(
         facilities,
         names,
@@ -133,7 +123,7 @@ pub fn put_file(
         timescale,
         sizes,
         memory,
-        &mut last[..n],
+        &mut last[..facilities.len()],
         out,
     );
 }

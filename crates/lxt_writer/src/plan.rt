@@ -48,13 +48,12 @@ fn measure_changes(
     facilities: &[[u32; 5]],
     changes: &[[u32; 4]],
     values: &[u8],
-) -> changes::Measured
+) -> Option<changes::Measured>
     requires { Widths facilities.now × (length facilities.now ≤ most_facilities) }
     ensures { ChangesMeasured facilities.now changes.now values.now result }
 {
     let mut last = [0u32; Summary::MOST_FACILITIES as usize];
-    let n = facilities.len();
-    changes::measure(facilities, changes, values, &mut last[..n])
+    changes::measure(facilities, changes, values, &mut last[..facilities.len()])
 }
 
 pub fn plan_for(
@@ -71,14 +70,12 @@ pub fn plan_for(
     if !values_allowed(n, initial, timescale) {
         return refused();
     }
-    let f = names::measure(facilities, names);
-    if !f.sound {
+    let Some(f) = names::measure(facilities, names) else {
         return refused();
-    }
-    let c = measure_changes(facilities, changes, values);
-    if !c.sound {
+    };
+    let Some(c) = measure_changes(facilities, changes, values) else {
         return refused();
-    }
+    };
     let sizes = Sizes {
         facilities: n,
         names: f.size,

@@ -1,4 +1,4 @@
-use Rattle.lxt_facilities.proofs.FacilityLaws.{width_bits, width_integer, width_real, width_text}
+use Rattle.lxt_facilities.proofs.FacilityLaws.{width_bits, width_integer, width_none}
 use Rattle.lxt_facilities.proofs.facilities.width_of.Goals as goal
 
 pub returns-in-Bits : goal.returns-in-Bits
@@ -8,7 +8,4 @@ pub returns-in-Integer : goal.returns-in-Integer
 returns-in-Integer c = search width_integer
 
 pub returns-in-Real : goal.returns-in-Real
-returns-in-Real c = search width_real
-
-pub returns-in-Text : goal.returns-in-Text
-returns-in-Text c = search width_text
+returns-in-Real c = width_none _ _ _ c.in-Real.is

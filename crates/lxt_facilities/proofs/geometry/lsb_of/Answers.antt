@@ -1,5 +1,5 @@
+use Rattle.std.proofs.Common.{inl, inr, rules}
 use Rattle.lxt_written.specs.WrittenFile.{lsb_for}
-use borrow.Author.Rules.{rules}
 use Rattle.lxt_facilities.proofs.geometry.lsb_of.Goals as goal
 
 pub returns-in-Bits : goal.returns-in-Bits
@@ -8,12 +8,4 @@ returns-in-Bits c = search rules
 
 pub returns-in-Integer : goal.returns-in-Integer
 unfolding lsb_for
-returns-in-Integer c = search rules
-
-pub returns-in-Real : goal.returns-in-Real
-unfolding lsb_for
-returns-in-Real c = search rules
-
-pub returns-in-Text : goal.returns-in-Text
-unfolding lsb_for
-returns-in-Text c = search rules
+returns-in-Integer c = elim c.in-Integer.is [ inl e ↦ rw e | inr o ↦ elim o [ inl e ↦ rw e | inr e ↦ rw e ] ]

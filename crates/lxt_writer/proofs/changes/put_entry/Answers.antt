@@ -10,11 +10,6 @@ four-requires c =
     let new = entry_is_new c.args.out.now c.args.e c.args.gap _ _ _ c.is_new.ensures c.if-not-is_new.false in
     omega (arith, c.requires.room new, c.requires.apart new)
 
-pub overflow_add-place : goal.overflow_add-place
-overflow_add-place c =
-    let new = entry_is_new c.args.out.now c.args.e c.args.gap _ _ _ c.is_new.ensures c.if-not-is_new.false in
-    omega (arith, c.requires.room new)
-
 pub four-requires-2 : goal.four-requires-2
 four-requires-2 c =
     let new = entry_is_new c.args.out.now c.args.e c.args.gap _ _ _ c.is_new.ensures c.if-not-is_new.false in

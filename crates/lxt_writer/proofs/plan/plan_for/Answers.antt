@@ -10,31 +10,22 @@ returns-then-not-values_allowed c =
     let values = rw scale at c.values_allowed.ensures in
     planned_refused _ _ _ _ _ _ _ c.refused.ensures (values_refused _ _ _ _ _ _ _ values c.if-not-values_allowed.true)
 
-pub measure-f-requires : goal.measure-f-requires
-measure-f-requires c =
-    let scale = to_z-of_z w8 c.args.timescale c.ranges.timescale in
-    let values = rw scale at c.values_allowed.ensures in
-    let a = c.args in
-    count_small a.facilities.now a.names.now a.changes.now a.values.now a.initial a.timescale _ values c.if-not-values_allowed.false
+pub returns-in_default : goal.returns-in_default
+returns-in_default c = planned_refused _ _ _ _ _ _ _ c.refused-in_default.ensures (facilities_refused _ _ _ _ _ _ c.in_default.ensures)
 
-pub returns-then-not-f : goal.returns-then-not-f
-returns-then-not-f c = planned_refused _ _ _ _ _ _ _ c.refused-then-not-f.ensures (facilities_refused _ _ _ _ _ _ _ c.measure-f.ensures c.if-not-f.true)
-
-pub measure_changes-c-requires : goal.measure_changes-c-requires
-measure_changes-c-requires c =
+pub measure_changes-requires : goal.measure_changes-requires
+measure_changes-requires c =
     let scale = to_z-of_z w8 c.args.timescale c.ranges.timescale in
     let values = rw scale at c.values_allowed.ensures in
     let a = c.args in
     let few = count_small a.facilities.now a.names.now a.changes.now a.values.now a.initial a.timescale _ values c.if-not-values_allowed.false in
     let wide =
-    widths_small a.facilities.now a.names.now a.changes.now a.values.now a.initial a.timescale _ values c.if-not-values_allowed.false _
-    c.measure-f.ensures c.if-not-f.false in
+    widths_small a.facilities.now a.names.now a.changes.now a.values.now a.initial a.timescale _ values c.if-not-values_allowed.false _ c.in-Some.ensures in
     (wide, few)
 
-pub returns-then-not-c : goal.returns-then-not-c
-returns-then-not-c c =
-    planned_refused _ _ _ _ _ _ _ c.refused-then-not-c.ensures
-    (changes_refused _ _ _ _ _ _ _ c.measure_changes-c.ensures c.if-not-c.true)
+pub returns-in_default-measure_changes : goal.returns-in_default-measure_changes
+returns-in_default-measure_changes c =
+    planned_refused _ _ _ _ _ _ _ c.refused-in_default-measure_changes.ensures (changes_refused _ _ _ _ _ _ c.in_default-measure_changes.ensures)
 
 pub placed_by-places-requires : goal.placed_by-places-requires
 placed_by-places-requires c =
@@ -42,13 +33,11 @@ placed_by-places-requires c =
     let values = rw scale at c.values_allowed.ensures in
     let a = c.args in
     sizes_bounded a.facilities.now a.names.now a.changes.now a.values.now a.initial a.timescale _
-    values c.if-not-values_allowed.false _
-    c.measure-f.ensures c.if-not-f.false _ c.measure_changes-c.ensures c.if-not-c.false
+    values c.if-not-values_allowed.false _ c.in-Some.ensures _ c.in-Some-measure_changes.ensures
 
 pub returns : goal.returns
 returns c =
     let scale = to_z-of_z w8 c.args.timescale c.ranges.timescale in
     let values = rw scale at c.values_allowed.ensures in
-    planned _ _ _ _ _ _ _ values c.if-not-values_allowed.false _
-    c.measure-f.ensures c.if-not-f.false _ c.measure_changes-c.ensures c.if-not-c.false _
+    planned _ _ _ _ _ _ _ values c.if-not-values_allowed.false _ c.in-Some.ensures _ c.in-Some-measure_changes.ensures _
     c.placed_by-places.ensures
