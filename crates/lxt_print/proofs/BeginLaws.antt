@@ -1,14 +1,13 @@
 -- Laws of the start: the refusal of a file, the tree from which all changes are left, and that all lines are left.
-use Prim.Native.Nat.{ℕ, suc, ◌+◌, ◌*◌, ◌-◌, ◌≤◌, ◌<◌}
-use native.Mathlib.Nat.{zero-add, le_refl}
-use native.Mathlib.Numerals.{add-one}
+use Prim.Native.Nat.{ℕ, ◌+◌, ◌*◌, ◌-◌, ◌≤◌, ◌<◌}
+use native.Mathlib.Nat.{zero-add}
 use native.Mathlib.Omega.{arith}
 use native.Mathlib.Decide.{dec_le}
 use mathlib.Core.Path.{◌≡◌, refl, sym, ◌∙◌}
 use mathlib.Core.Bool.{true, false, true≢false}
 use mathlib.Core.List.{List, ◌++◌, append-nil}
-use lib.ListN.{length, get_or, set, take, drop, replicate, length-replicate, length-set, get_or-replicate, replicate-append-replicate, drop_of_length-le, get_or-eq_default}
-use lib.Seq.{length-take-le, drop-cons, set_at, append_snoc, take_at, take-append_seam}
+use lib.ListN.{length, take, drop, replicate, length-replicate, get_or-replicate, get_or-eq_default}
+use lib.Seq.{length-take-le, take_at, take-append_seam}
 use lib.Dec.{leb, lit<}
 use borrow.Author.Tests.{leb-true, le-leb, lt-leb, ne_eqb}
 use Rattle.lxt_format.specs.Basics.{◌unless◌}
@@ -44,35 +43,6 @@ module _ (s : List ℕ) (k : ℕ) (e : k ≡ file_refusal s) where
   pub long_enough : length s ≤ longest_printed → k ≡ print_refusal s
   unfolding print_refusal
   long_enough h = e ∙ sym (next_check 1 (file_refusal s) _ (le-leb _ _ h))
-
--- ---- memory cleared
-
--- the first i numbers are 0, the others as they were
-pub record Clearing (before : List ℕ) (i : ℕ) (nodes : List ℕ) : Type 0 where
-  pub holds : nodes ≡ replicate i 0 ++ drop i before
-  pub upto : i ≤ length before
-  pub long : length nodes ≡ length before
-
-pub clear_begun : (before : List ℕ) → Clearing before 0 before
-clear_begun before = record { holds = refl; upto = omega arith; long = refl }
-
-module _ (before : List ℕ) (i : ℕ) (nodes : List ℕ) (w : Clearing before i nodes) where
-  pub clear_turn : i < length nodes → Clearing before (i + 1) (set nodes i 0)
-  clear_turn h =
-      let l = w.long in
-      let more : i < length before = omega arith in
-      record {
-        holds =
-            rw (w.holds, drop-cons before i 0 more, set_at (replicate {A = ℕ} i 0) (get_or before i 0) (drop (suc i) before) 0 i (length-replicate {A = ℕ} i 0), ← replicate-append-replicate {A = ℕ} i 1 0, add-one i)
-            (sym (append_snoc (replicate {A = ℕ} i 0) 0 (drop (suc i) before)));
-        upto = omega arith;
-        long = length-set nodes i 0 ∙ l;
-      }
-
-  pub clear_ended : length nodes ≤ i → nodes ≡ replicate (length before) 0
-  clear_ended h =
-      let e : i ≡ length before = omega (arith, w.upto, w.long) in
-      w.holds ∙ rw (e, drop_of_length-le before {i = length before} (le_refl (length before))) (append-nil (replicate {A = ℕ} (length before) 0))
 
 -- ---- the tree
 

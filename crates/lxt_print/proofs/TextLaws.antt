@@ -1,5 +1,7 @@
 -- Laws of text that is put into a buffer, and of numbers as text.
 use Rattle.std.specs.Prelude.{if◌then◌else◌}
+use Rattle.std.specs.Int.{to_be_bytes}
+use Rattle.std.proofs.Common.{w64}
 use Prim.Native.Nat.{ℕ, zero, suc, ◌+◌, ◌*◌, ◌-◌, ◌/◌, ◌%◌, ◌≤◌, ◌<◌}
 use native.Mathlib.Omega.{arith}
 use native.Mathlib.Decide.{dec_le}
@@ -14,36 +16,6 @@ use Rattle.lxt_format.specs.Changes.{digits}
 use Rattle.lxt_print.specs.Lines.{decimal_within, decimal, hex_digit, hex_byte, hex_bytes}
 use Rattle.lxt_print.specs.Placing.{Put}
 use Rattle.lxt_format.specs.Buffers.{placed, placed_none, placed_byte, placed_before}
-
--- ---- bytes as they are
-
-pub record Copied (b : List ℕ) (at : ℕ) (bytes b' : List ℕ) (i : ℕ) : Type 0 where
-  pub holds : b' ≡ placed b at (take i bytes)
-  pub upto : i ≤ length bytes
-  pub room : at + length bytes ≤ length b
-  pub long : length b' ≡ length b
-
-pub copy_begun : (b : List ℕ) (at : ℕ) (bytes : List ℕ) → at + length bytes ≤ length b → Copied b at bytes b 0
-copy_begun b at bytes h = record { holds = sym (placed_none b at); upto = omega arith; room = h; long = refl }
-
-module _ (b : List ℕ) (at : ℕ) (bytes b' : List ℕ) (i : ℕ) (w : Copied b at bytes b' i) where
-  pub copy_turn : i < length bytes → Copied b at bytes (set b' (at + i) (get_or bytes i 0)) (i + 1)
-  copy_turn h =
-      let l = length-take-le i bytes w.upto in
-      let r = w.room in
-      let next : take (i + 1) bytes ≡ take i bytes ++ (get_or bytes i 0 ∷ []) = let e : i + 1 ≡ suc i = omega arith in rw e (take-suc bytes i 0 h) in
-      record {
-        holds = rw (w.holds, next) (placed_byte b at (take i bytes) (get_or bytes i 0) (at + i) (omega arith) (omega arith));
-        upto = omega arith;
-        room = w.room;
-        long = length-set b' (at + i) (get_or bytes i 0) ∙ w.long;
-      }
-
-  pub copy_ended : length bytes ≤ i → Put b at bytes (at + i) b'
-  copy_ended h =
-      let u = w.upto in
-      let r = w.room in
-      record { place = omega arith; holds = w.holds ∙ rw (take_all i bytes h); fits = omega arith }
 
 -- ---- decimal digits
 
@@ -245,7 +217,6 @@ module _ (b : List ℕ) (at : ℕ) (bytes b' : List ℕ) (i p : ℕ) (w : Spelle
 
 -- ---- the bytes of a word
 
-pub word_bytes : (x : ℕ)
-    → (x / 0x100000000000000 % 256) ∷ (x / 0x1000000000000 % 256) ∷ (x / 0x10000000000 % 256) ∷ (x / 0x100000000 % 256) ∷ (x / 0x1000000 % 256) ∷ (x / 0x10000 % 256) ∷ (x / 0x100 % 256) ∷ (x % 256) ∷ [] ≡ digits 8 8 x
+pub word_bytes : (x : ℕ) → to_be_bytes w64 x ≡ digits 8 8 x
 unfolding digits
 word_bytes x = let e : x % 256 ≡ x / 1 % 256 = omega arith in rw e

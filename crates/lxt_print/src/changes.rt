@@ -63,10 +63,7 @@ pub fn next(
     let taken = take_highest(file, nodes, m);
     let o = taken.offset;
     if o == 0 {
-        return Line {
-            size: 0,
-            entry: entry,
-        };
+        return Line { size: 0, entry };
     }
     let e = entries::down(
         file,
@@ -77,8 +74,5 @@ pub fn next(
         o as usize,
     );
     let size = lines::change(file, t, taken.number as u32, o, e.time, out);
-    Line {
-        size: size,
-        entry: e,
-    }
+    Line { size, entry: e }
 }

@@ -10,7 +10,7 @@ ghost use Rattle.lxt_chains.specs.Pending.{pair_of, Allowed};
 ghost use Rattle.lxt_print.specs.Lines.{decimal, signed_decimal, space, facility_line, change_line, done_line, refused_line, kind_word, value_text};
 ghost use Rattle.lxt_print.specs.Placing.{Opened, NamesAt, Put, facility_head, facility_end, change_head};
 
-use crate::text::{bytes_of, put_bytes, put_decimal, put_hex};
+use crate::text::{put_bytes, put_decimal, put_hex};
 use lxt_format::{Kind, Value};
 use lxt_sections::times::BIAS;
 use lxt_tables::{Tables, aliases, geometry};
@@ -22,9 +22,9 @@ pub fn refused(k: u8, out: &mut [u8]) -> usize
     requires { 32 ≤ length out.old }
     ensures { (result ≡ length (refused_line k)) × (out.new ≡ onto (refused_line k) out.old) }
 {
-    let p = put_bytes(out, 0, &[b'r', b'e', b'f', b'u', b's', b'e', b'd', b' ']);
-    let q = put_decimal(out, p, k as u64);
-    put_bytes(out, q, &[b'\n'])
+    let p = put_bytes(out, 0, b"refused ");
+    let q = put_decimal(out, p, u64::from(k));
+    put_bytes(out, q, b"\n")
 }
 
 // "done" and how many changes were printed.
@@ -32,9 +32,9 @@ pub fn done(count: u32, out: &mut [u8]) -> usize
     requires { 32 ≤ length out.old }
     ensures { (result ≡ length (done_line count)) × (out.new ≡ onto (done_line count) out.old) }
 {
-    let p = put_bytes(out, 0, &[b'd', b'o', b'n', b'e', b' ']);
-    let q = put_decimal(out, p, count as u64);
-    put_bytes(out, q, &[b'\n'])
+    let p = put_bytes(out, 0, b"done ");
+    let q = put_decimal(out, p, u64::from(count));
+    put_bytes(out, q, b"\n")
 }
 
 // A number and a space.
@@ -42,8 +42,8 @@ fn put_number(out: &mut [u8], at: usize, n: u32) -> usize
     requires { at + 21 ≤ length out.old }
     ensures { Put out.old at (decimal n ++ space) result out.new × (result ≤ at + 21) }
 {
-    let p = put_decimal(out, at, n as u64);
-    put_bytes(out, p, &[b' '])
+    let p = put_decimal(out, at, u64::from(n));
+    put_bytes(out, p, b" ")
 }
 
 fn put_kind(out: &mut [u8], at: usize, kind: Kind) -> usize
@@ -51,10 +51,10 @@ fn put_kind(out: &mut [u8], at: usize, kind: Kind) -> usize
     ensures { Put out.old at (kind_word kind) result out.new × (result ≤ at + 7) }
 {
     match kind {
-        Kind::Bits => put_bytes(out, at, &[b'b', b'i', b't', b's']),
-        Kind::Integer => put_bytes(out, at, &[b'i', b'n', b't', b'e', b'g', b'e', b'r']),
-        Kind::Real => put_bytes(out, at, &[b'r', b'e', b'a', b'l']),
-        Kind::Text => put_bytes(out, at, &[b't', b'e', b'x', b't']),
+        Kind::Bits => put_bytes(out, at, b"bits"),
+        Kind::Integer => put_bytes(out, at, b"integer"),
+        Kind::Real => put_bytes(out, at, b"real"),
+        Kind::Text => put_bytes(out, at, b"text"),
     }
 }
 
@@ -63,14 +63,10 @@ fn put_facility(f: u32, name: &[u8], out: &mut [u8]) -> usize
     requires { length name.now + 31 ≤ length out.old }
     ensures { Put out.old 0 (facility_head f name.now) result out.new × (result ≤ length name.now + 31) }
 {
-    let p = put_bytes(
-        out,
-        0,
-        &[b'f', b'a', b'c', b'i', b'l', b'i', b't', b'y', b' '],
-    );
+    let p = put_bytes(out, 0, b"facility ");
     let q = put_number(out, p, f);
     let r = put_bytes(out, q, name);
-    put_bytes(out, r, &[b' '])
+    put_bytes(out, r, b" ")
 }
 
 // A facility's kind and width; of an alias "alias" and its root's number.
@@ -81,14 +77,13 @@ fn put_shape(file: &[u8], t: Tables, f: u32, out: &mut [u8], at: usize) -> usize
     let geometry = t.geometry as usize;
     let n = t.facilities;
     if geometry::is_alias(file, geometry, n, f) {
-        let p = put_bytes(out, at, &[b'a', b'l', b'i', b'a', b's', b' ']);
-        return put_decimal(out, p, aliases::root(file, geometry, n, f) as u64);
+        let p = put_bytes(out, at, b"alias ");
+        return put_decimal(out, p, u64::from(aliases::root(file, geometry, n, f)));
     }
     let facts = geometry::own_facts(file, geometry, n, f);
-    let kind = facts.kind;
-    let q = put_kind(out, at, kind);
-    let r = put_bytes(out, q, &[b' ']);
-    put_decimal(out, r, facts.width as u64)
+    let q = put_kind(out, at, facts.kind);
+    let r = put_bytes(out, q, b" ");
+    put_decimal(out, r, u64::from(facts.width))
 }
 
 // A facility: its number, name, kind and width; of an alias "alias" and its root's number.
@@ -98,7 +93,7 @@ pub fn facility(file: &[u8], t: Tables, f: u32, name: &[u8], out: &mut [u8]) -> 
 {
     let p = put_facility(f, name, out);
     let q = put_shape(file, t, f, out, p);
-    put_bytes(out, q, &[b'\n'])
+    put_bytes(out, q, b"\n")
 }
 
 // The length of a line that was put, and what is left of the names.
@@ -124,10 +119,7 @@ pub fn next_facility(
 {
     let rest = next(file, t.end, names, name);
     let size = facility(file, t, f, &name[..rest.before], out);
-    NamedLine {
-        size: size,
-        names: rest,
-    }
+    NamedLine { size, names: rest }
 }
 
 // A time, which has its bias, with "-" where it is negative.
@@ -136,7 +128,7 @@ fn put_time(out: &mut [u8], at: usize, time: u64) -> usize
     ensures { Put out.old at (signed_decimal (unbiased time)) result out.new × (result ≤ at + 21) }
 {
     if time < BIAS {
-        let p = put_bytes(out, at, &[b'-']);
+        let p = put_bytes(out, at, b"-");
         return put_decimal(out, p, BIAS - time);
     }
     put_decimal(out, at, time - BIAS)
@@ -147,11 +139,11 @@ fn put_change(f: u32, o: u32, time: u64, out: &mut [u8]) -> usize
     requires { 80 ≤ length out.old }
     ensures { Put out.old 0 (change_head f o (unbiased time)) result out.new × (result ≤ 80) }
 {
-    let p = put_bytes(out, 0, &[b'c', b'h', b'a', b'n', b'g', b'e', b' ']);
+    let p = put_bytes(out, 0, b"change ");
     let q = put_number(out, p, f);
     let r = put_number(out, q, o);
     let s = put_time(out, r, time);
-    put_bytes(out, s, &[b' '])
+    put_bytes(out, s, b" ")
 }
 
 // The value of a change: symbols as they are, reals and texts in hexadecimal.
@@ -160,23 +152,18 @@ fn put_value(file: &[u8], t: Tables, f: u32, o: u32, out: &mut [u8], at: usize) 
     ensures { Put out.old at (value_text file.now (content_of file.now f o)) result out.new × (result ≤ at + (2 * length file.now + widest_facility)) }
 {
     let facts = geometry::own_facts(file, t.geometry as usize, t.facilities, f);
-    let kind = facts.kind;
-    let order = t.order;
     let value = read(
         file,
         t.end,
-        order,
-        kind,
+        t.order,
+        facts.kind,
         facts.width,
         o as usize,
         &mut out[at..],
     );
     match value {
         Value::Bits { width } => at + width as usize,
-        Value::Real { number: _, bits } => {
-            let word = bytes_of(bits);
-            put_hex(out, at, &word)
-        }
+        Value::Real { number: _, bits } => put_hex(out, at, &bits.to_be_bytes()),
         Value::Text { start, length } => {
             let from = start as usize;
             put_hex(out, at, &file[from..from + length as usize])
@@ -193,5 +180,5 @@ pub fn change(file: &[u8], t: Tables, f: u32, o: u32, time: u64, out: &mut [u8])
 {
     let p = put_change(f, o, time, out);
     let q = put_value(file, t, f, o, out, p);
-    put_bytes(out, q, &[b'\n'])
+    put_bytes(out, q, b"\n")
 }

@@ -94,22 +94,12 @@ fn refusal(file: &[u8], k: u8) -> u8
     k
 }
 
-fn clear(nodes: &mut [u32])
-    ensures { nodes.new ≡ replicate (length nodes.old) 0 }
-{
-    let mut i = 0;
-    while i < nodes.len() {
-        nodes[i] = 0;
-        i += 1;
-    }
-}
-
 // A tree from which all changes are left.
 fn plant(file: &[u8], t: Tables, nodes: &mut [u32], m: usize)
     requires { Opened file.now t × ((t.facilities ≤ m) × Room m nodes.old) }
     ensures { Waiting file.now t m nodes.new × (left file.now m nodes.new ≡ all_left file.now) }
 {
-    clear(nodes);
+    nodes.fill(0);
     changes::start(file, t, nodes, m);
 }
 
@@ -130,7 +120,7 @@ fn all_lines(file: &[u8], t: Tables, name: &[u8], nodes: &mut [u32]) -> Rest
             before: 0,
         },
         leaves: m,
-        entry: entry,
+        entry,
         count: 0,
         over: false,
     }
@@ -173,8 +163,7 @@ fn next_facility(
     ensures { NextLine file.now r nodes.now result name.new nodes.now line.new }
 {
     let put = lines::next_facility(file, r.tables, r.facility, r.names, name, line);
-    let names = put.names;
-    r.names = names;
+    r.names = put.names;
     r.facility += 1;
     Printing {
         at: 0,
@@ -196,8 +185,7 @@ fn next_change(
 {
     let m = r.leaves;
     let put = changes::next(file, r.tables, r.entry, &mut nodes[..2 * m], m, line);
-    let size = put.size;
-    if size == 0 {
+    if put.size == 0 {
         let last = lines::done(r.count, line);
         r.over = true;
         return Printing {
@@ -206,12 +194,11 @@ fn next_change(
             rest: r,
         };
     }
-    let entry = put.entry;
-    r.entry = entry;
+    r.entry = put.entry;
     r.count += 1;
     Printing {
         at: 0,
-        size: size,
+        size: put.size,
         rest: r,
     }
 }
@@ -227,18 +214,12 @@ fn next_line(file: &[u8], r: Rest, name: &mut [u8], nodes: &mut [u32], line: &mu
     next_change(file, r, name, nodes, line)
 }
 
-fn least(a: usize, b: usize) -> usize
-    ensures { result ≡ min a b }
-{
-    if a < b { a } else { b }
-}
-
 // Puts of the line what the buffer has room for: the place after it.
 fn put_part(line: &[u8], at: usize, size: usize, out: &mut [u8], from: usize) -> usize
     requires { (at ≤ size) × ((size ≤ length line.now) × (from ≤ length out.old)) }
     ensures { Put out.old from (take (min (size - at) (length out.old - from)) (drop at line.now)) result out.new }
 {
-    let k = least(size - at, out.len() - from);
+    let k = (size - at).min(out.len() - from);
     put_bytes(out, from, &line[at..at + k])
 }
 
@@ -264,10 +245,9 @@ pub fn fill(
             return Filled {
                 size: put,
                 done: (left.at == left.size) & left.rest.over,
-                left: left,
+                left,
             };
         }
-        let next = next_line(file, left.rest, name, nodes, line);
-        left = next;
+        left = next_line(file, left.rest, name, nodes, line);
     }
 }

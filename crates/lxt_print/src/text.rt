@@ -1,6 +1,5 @@
 // Text put into a lent buffer. Each function puts its text at a place and answers the place after it.
 ghost use Rattle.std.specs.Prelude.{◌≡◌, ◌+◌, ◌*◌, ◌≤◌, ◌<◌, length};
-ghost use Rattle.lxt_format.specs.Changes.{digits};
 ghost use Rattle.lxt_print.specs.Lines.{decimal, hex_digit, hex_bytes};
 ghost use Rattle.lxt_print.specs.Placing.{Put};
 
@@ -9,12 +8,9 @@ pub fn put_bytes(out: &mut [u8], at: usize, bytes: &[u8]) -> usize
     requires { at + length bytes.now ≤ length out.old }
     ensures { Put out.old at bytes.now result out.new }
 {
-    let mut i = 0;
-    while i < bytes.len() {
-        out[at + i] = bytes[i];
-        i += 1;
-    }
-    at + i
+    let end = at + bytes.len();
+    out[at..end].copy_from_slice(bytes);
+    end
 }
 
 // How many digits a number has.
@@ -23,6 +19,7 @@ fn places(n: u64) -> usize
 {
     let mut k = 1;
     let mut rest = n / 10;
+    // digits that are left, not a count
     while 0 < rest {
         rest /= 10;
         k += 1;
@@ -36,11 +33,9 @@ pub fn put_decimal(out: &mut [u8], at: usize, n: u64) -> usize
     ensures { Put out.old at (decimal n) result out.new × (result ≤ at + 20) }
 {
     let end = at + places(n);
-    let mut i = end;
     let mut rest = n;
-    while at < i {
-        i -= 1;
-        out[i] = 48 + (rest % 10) as u8;
+    for i in (at..end).rev() {
+        out[i] = b'0' + (rest % 10) as u8;
         rest /= 10;
     }
     end
@@ -50,7 +45,7 @@ fn hex_digit(d: u8) -> u8
     requires { d < 16 }
     ensures { result ≡ hex_digit d }
 {
-    if d < 10 { 48 + d } else { 87 + d }
+    if d < 10 { b'0' + d } else { b'a' - 10 + d }
 }
 
 // Bytes in hexadecimal, two digits each.
@@ -58,30 +53,11 @@ pub fn put_hex(out: &mut [u8], at: usize, bytes: &[u8]) -> usize
     requires { at + 2 * length bytes.now ≤ length out.old }
     ensures { Put out.old at (hex_bytes bytes.now) result out.new × (result ≡ at + 2 * length bytes.now) }
 {
-    let mut i = 0;
     let mut p = at;
-    while i < bytes.len() {
-        let b = bytes[i];
-        out[p] = hex_digit(b / 16);
-        out[p + 1] = hex_digit(b % 16);
+    for b in bytes {
+        out[p] = hex_digit(*b / 16);
+        out[p + 1] = hex_digit(*b % 16);
         p += 2;
-        i += 1;
     }
     p
-}
-
-// The eight bytes of a 64-bit number, the highest first.
-pub fn bytes_of(word: u64) -> [u8; 8]
-    ensures { result ≡ digits 8 8 word }
-{
-    [
-        (word / 0x100_0000_0000_0000 % 256) as u8,
-        (word / 0x1_0000_0000_0000 % 256) as u8,
-        (word / 0x100_0000_0000 % 256) as u8,
-        (word / 0x1_0000_0000 % 256) as u8,
-        (word / 0x100_0000 % 256) as u8,
-        (word / 0x1_0000 % 256) as u8,
-        (word / 0x100 % 256) as u8,
-        (word % 256) as u8,
-    ]
 }

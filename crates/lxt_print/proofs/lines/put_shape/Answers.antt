@@ -10,7 +10,7 @@ pub root-requires : goal.root-requires
 root-requires c = geometry_there _ _ c.requires.0 _ c.requires.1.0
 
 pub returns-then-is_alias : goal.returns-then-is_alias
-returns-then-is_alias c = (put_is (alias_end _ _ _ c.is_alias.ensures c.if-is_alias.true _ c.root.ensures) (put_more c.put_bytes-p.ensures c.put_decimal.ensures.0), search rules)
+returns-then-is_alias c = (put_is (alias_end _ _ _ c.is_alias.ensures c.if-is_alias.true _ c.root.ensures) (put_more c.put_bytes-p.ensures (rw c.from.ensures at c.put_decimal.ensures.0)), search rules)
 
 pub own_facts-facts-requires : goal.own_facts-facts-requires
 own_facts-facts-requires c =
@@ -20,4 +20,4 @@ own_facts-facts-requires c =
 pub returns : goal.returns
 returns c =
     let kind = put_more c.put_kind-q.ensures.0 c.put_bytes-r.ensures in
-    (put_is (facts_end _ _ _ c.is_alias.ensures c.if-is_alias.false _ c.own_facts-facts.ensures) (put_more kind c.put_decimal-2.ensures.0), search rules)
+    (put_is (facts_end _ _ _ c.is_alias.ensures c.if-is_alias.false _ c.own_facts-facts.ensures) (put_more kind (rw c.from-2.ensures at c.put_decimal-2.ensures.0)), search rules)

@@ -1,4 +1,6 @@
+use mathlib.Core.Path.{◌∙◌}
 use native.Mathlib.Omega.{arith}
+use Rattle.lxt_print.proofs.TextLaws.{word_bytes}
 use Rattle.lxt_print.proofs.ValueLaws.{facts_asks, read_asks, text_part_lem, value_bits, value_real, value_text_lem, value_none, value_refused}
 use Rattle.lxt_print.proofs.lines.put_value.Goals as goal
 
@@ -20,7 +22,7 @@ pub returns-in-Bits : goal.returns-in-Bits
 returns-in-Bits c = value_bits _ _ c.requires.0 _ c.requires.1.0 _ c.requires.1.1.0 _ c.own_facts-facts.ensures _ _ c.requires.1.1.1 _ _ c.read-value.ensures.0 c.read-value.ensures.1 _ c.in-Bits.is
 
 pub returns-in-Real : goal.returns-in-Real
-returns-in-Real c = value_real _ _ c.requires.0 _ c.requires.1.0 _ c.requires.1.1.0 _ c.own_facts-facts.ensures _ _ c.requires.1.1.1 _ _ c.read-value.ensures.0 c.read-value.ensures.1 _ _ c.in-Real.is _ c.bytes_of-word.ensures _ _ c.put_hex.ensures.0 c.put_hex.ensures.1
+returns-in-Real c = value_real _ _ c.requires.0 _ c.requires.1.0 _ c.requires.1.1.0 _ c.own_facts-facts.ensures _ _ c.requires.1.1.1 _ _ c.read-value.ensures.0 c.read-value.ensures.1 _ _ c.in-Real.is _ (c.to_be_bytes.ensures ∙ word_bytes _) _ _ c.put_hex.ensures.0 c.put_hex.ensures.1
 
 pub returns-in-Text : goal.returns-in-Text
 returns-in-Text c = value_text_lem _ _ c.requires.0 _ c.requires.1.0 _ c.requires.1.1.0 _ c.own_facts-facts.ensures _ _ c.requires.1.1.1 _ _ c.read-value.ensures.0 c.read-value.ensures.1 _ _ c.in-Text.is _ _ c.put_hex-in-Text.ensures.0 c.put_hex-in-Text.ensures.1

@@ -22,11 +22,11 @@ overflow_add-left c =
 pub returns-then-put-out : goal.returns-then-put-out
 returns-then-put-out c = fill_ended c.loop-put.invariant c.put_part-p.ensures _ _ _ refl c.if-put-out.true
 
-pub next_line-next-requires : goal.next_line-next-requires
-next_line-next-requires c = line_asks c.loop-put.invariant c.put_part-p.ensures c.if-put-out.false
+pub next_line-left-requires : goal.next_line-left-requires
+next_line-left-requires c = line_asks c.loop-put.invariant c.put_part-p.ensures c.if-put-out.false
 
 pub loop-put-smaller : goal.loop-put-smaller
-loop-put-smaller c = c.next_line-next.ensures.less
+loop-put-smaller c = c.next_line-left.ensures.less
 
 pub loop-put-preserved : goal.loop-put-preserved
-loop-put-preserved c = fill_again c.loop-put.invariant c.put_part-p.ensures c.if-put-out.false c.next_line-next.ensures
+loop-put-preserved c = fill_again c.loop-put.invariant c.put_part-p.ensures c.if-put-out.false c.next_line-left.ensures
