@@ -24,25 +24,23 @@ fn read_all(from: &mut impl Read, input: &mut [u8]) -> Input
     ensures part { result.size ≡ length (take result.size input.new) }
 {
     let mut size = 0;
+    // by as many bytes as a read gives, not a count
     while size < input.len() {
         match from.read(&mut input[size..]) {
             Ok(0) => {
                 return Input {
-                    size: size,
+                    size,
                     failed: false,
                 };
             }
             Ok(more) => size += more,
             Err(_) => {
-                return Input {
-                    size: size,
-                    failed: true,
-                };
+                return Input { size, failed: true };
             }
         }
     }
     Input {
-        size: size,
+        size,
         failed: false,
     }
 }
@@ -70,8 +68,7 @@ fn print(
     let mut left = printing::begin(file, name, nodes, line);
     loop {
         let filled = printing::fill(file, left, name, nodes, line, out);
-        let size = filled.size;
-        let written = write(rt, &out[..size]);
+        let written = write(rt, &out[..filled.size]);
         if !written | filled.done {
             return;
         }
@@ -94,6 +91,5 @@ fn main(rt: HostRuntime) {
         let _ = eprintln!(rt; "lxt_dump: a read failed");
         return;
     }
-    let n = read.size;
-    print_trace(&rt, &input[..n]);
+    print_trace(&rt, &input[..read.size]);
 }

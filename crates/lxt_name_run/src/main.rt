@@ -14,6 +14,7 @@ fn read_full(from: &mut impl Read, input: &mut [u8]) -> usize
     ensures { result ≤ length input.new }
 {
     let mut size = 0;
+    // by as many bytes as a read gives, not a count
     while size < input.len() {
         match from.read(&mut input[size..]) {
             Ok(0) => return size,
@@ -24,27 +25,12 @@ fn read_full(from: &mut impl Read, input: &mut [u8]) -> usize
     size
 }
 
-// Two buffers hold the same bytes.
-fn same(a: &[u8], b: &[u8]) -> bool {
-    if a.len() != b.len() {
-        return false;
-    }
-    let mut i = 0;
-    while i < a.len() {
-        if a[i] != b[i] {
-            return false;
-        }
-        i += 1;
-    }
-    true
-}
-
 // Asks both ways, each with a buffer of its own: whether the question was answered.
 fn ask(rt: &impl Print, file: &[u8], facility: u32, one: &mut [u8], other: &mut [u8]) -> bool {
     let answer = names::length_of(file, facility, one);
     let part = names::name_of(file, facility, other);
     let _ = rt.write_all(part);
-    if same(one, other) {
+    if &*one == &*other {
         let _ = rt.write_all(b": alike\n");
     } else {
         let _ = rt.write_all(b": DIFFERENT\n");
@@ -70,12 +56,10 @@ fn ask_without_room(rt: &impl Print, file: &[u8]) -> bool {
 }
 
 fn ask_all(rt: &impl Print, file: &[u8]) {
-    let mut f = 0;
-    while f <= Summary::MOST_FACILITIES {
+    for f in 0..=Summary::MOST_FACILITIES {
         if !ask_with_room(rt, file, f) {
             return;
         }
-        f += 1;
     }
 }
 

@@ -13,6 +13,7 @@ fn read_full(from: &mut impl Read, input: &mut [u8]) -> usize
     ensures { result ≤ length input.new }
 {
     let mut size = 0;
+    // by as many bytes as a read gives, not a count
     while size < input.len() {
         match from.read(&mut input[size..]) {
             Ok(0) => return size,
@@ -26,14 +27,11 @@ fn read_full(from: &mut impl Read, input: &mut [u8]) -> usize
 // Which it is: whether the question was answered.
 fn tell(rt: &impl Print, place: TextAnswer) -> bool {
     match place {
-        TextAnswer::File {
-            start: _,
-            length: _,
-        } => {
+        TextAnswer::File { .. } => {
             let _ = rt.write_all(b"in the file: ");
             true
         }
-        TextAnswer::Lent { length: _ } => {
+        TextAnswer::Lent { .. } => {
             let _ = rt.write_all(b"lent: ");
             true
         }
@@ -57,19 +55,16 @@ fn ask<'a>(rt: &impl Print, file: &'a [u8], facility: u32, time: i64, text: &'a 
 }
 
 fn ask_all<'a>(rt: &impl Print, file: &'a [u8], text: &'a [u8]) {
-    let mut f = 0;
-    while f <= Summary::MOST_FACILITIES {
+    for f in 0..=Summary::MOST_FACILITIES {
         ask(rt, file, f, 19, text);
         if !ask(rt, file, f, 20, text) {
             return;
         }
-        f += 1;
     }
 }
 
 fn main(rt: HostRuntime) {
     let mut input = [0u8; File::LONGEST_PRINTED];
     let n = read_full(&mut rt.stdin(), &mut input);
-    let text = [b'n', b'o', b'n', b'e'];
-    ask_all(&rt, &input[..n], &text);
+    ask_all(&rt, &input[..n], b"none");
 }
