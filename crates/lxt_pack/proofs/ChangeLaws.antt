@@ -179,8 +179,11 @@ module _ (v : List ℕ) (start end delta : ℕ) (out : List ℕ) (at : ℕ) (s :
   bits_width_lem : end - start ≡ s.width
   bits_width_lem = sym (length-slice start end v s.part.within) ∙ value_length Bits s.width (slice start end v) refl s.allowed
 
-  pub bits_some : (start < end) × (end ≤ length v) × (all is_symbol (slice start end v) ≡ true)
-  bits_some = let e = bits_width_lem in (omega (arith, s.wide.0), s.part.within, value_symbols Bits s.width (slice start end v) refl s.allowed)
+  pub bits_some : (0 < length (slice start end v)) × (all is_symbol (slice start end v) ≡ true)
+  bits_some =
+      let e = bits_width_lem in
+      let l = length-slice start end v s.part.within in
+      (omega (arith, s.wide.0), value_symbols Bits s.width (slice start end v) refl s.allowed)
 
   pub bits_head : (c : ℕ) → c ≡ command_for Bits (slice start end v) → HeadAsked c delta out at
   bits_head c h =

@@ -1,14 +1,13 @@
 -- Laws of how many bytes a change takes.
 use Rattle.std.specs.Prelude.{if◌then◌else◌}
 use mir.Val.{bool_byte}
-use Prim.Native.Nat.{ℕ, zero, suc, ◌+◌, ◌*◌, ◌-◌, ◌/◌, ◌≤◌, ◌<◌}
+use Prim.Native.Nat.{ℕ, zero, suc, ◌+◌, ◌*◌, ◌/◌, ◌≤◌, ◌<◌}
 use native.Mathlib.Omega.{arith}
 use native.Mathlib.Nat.{mul-le-mul}
 use mathlib.Core.Path.{◌≡◌, refl, sym, ap, ◌∙◌}
 use mathlib.Core.Bool.{Bool, true, false, not, ◌||◌}
 use mathlib.Core.List.{List, [], ◌∷◌}
 use lib.ListN.{length, get_or, length-append}
-use lib.Seq.{slice, slice-cons, slice_empty, length-slice}
 use lib.Dec.{ltb, eqb}
 use native.Mathlib.Decide.{dec_le}
 use borrow.Author.Tests.{lt-ltb, le-ltb, eq-eqb, ne_eqb}
@@ -22,7 +21,7 @@ use Rattle.lxt_written.specs.Writing.{no_zero, is_symbol, is_bit, value_allowed}
 use Rattle.lxt_written.specs.CommandLaws.{length_packed, integer_codes, command_one, command_0, bit_symbol, no_data}
 use Rattle.lxt_pack.specs.Symbols.{all_below, same_all}
 use Rattle.lxt_pack.proofs.SymbolLaws.{bit_is, symbols_codes, below_more, chosen_same, chosen_0, chosen_1, chosen_2}
-use Rattle.lxt_pack.specs.Change.{Part, WidthFor, not_allowed, size_for, Sizes, Scales}
+use Rattle.lxt_pack.specs.Change.{WidthFor, not_allowed, size_for, Sizes, Scales}
 
 -- ---- deltas
 
@@ -221,68 +220,65 @@ size_refused : (kind : Kind) (width : ℕ) (value : List ℕ) → value_allowed 
 unfolding size_for
 size_refused kind width value e = rw e
 
--- a part of one byte
-single : (v : List ℕ) (start end : ℕ) → end ≤ length v → end - start ≡ 1 → slice start end v ≡ get_or v start 0 ∷ []
-single v start end inside one =
-    let last : end ≡ suc start = omega arith in
-    slice-cons start end v 0 (omega arith) inside ∙ ap (λ l. get_or v start 0 ∷ l) (rw last (slice_empty (suc start) v))
+-- a value of one byte
+single : (v : List ℕ) → length v ≡ 1 → v ≡ get_or v 0 0 ∷ []
+single [] h = absurd (omega arith)
+single (x ∷ []) h = refl
+single (x ∷ y ∷ v) h = absurd (omega arith)
 
-module _ (v : List ℕ) (start end : ℕ) (p : Part v start end) where
-  part_long : length (slice start end v) ≡ end - start
-  part_long = length-slice start end v p.within
-
+module _ (v : List ℕ) where
   -- ---- bits
 
-  pub bits_long : (width : ℕ) → (end - start ≡ width → ⊥) → not_allowed ≡ size_for Bits width (slice start end v)
+  pub bits_long : (width : ℕ) → (length v ≡ width → ⊥) → not_allowed ≡ size_for Bits width v
   unfolding value_allowed
   bits_long width n =
-      sym (size_refused Bits width (slice start end v) (rw (part_long, ne_eqb (end - start) width n)))
+      sym (size_refused Bits width v (rw (ne_eqb (length v) width n)))
 
-  module _ (width : ℕ) (e : end - start ≡ width) where
+  module _ (width : ℕ) (e : length v ≡ width) where
     -- where a byte is no symbol
-    pub bits_none : all_below 9 (slice start end v) ≡ false → not_allowed ≡ size_for Bits width (slice start end v)
+    pub bits_none : all_below 9 v ≡ false → not_allowed ≡ size_for Bits width v
     unfolding value_allowed
-    bits_none n = sym (size_refused Bits width (slice start end v) (rw (part_long, eq-eqb (end - start) width e, symbols_codes (slice start end v) ∙ n)))
+    bits_none n = sym (size_refused Bits width v (rw (eq-eqb (length v) width e, symbols_codes v ∙ n)))
 
     -- symbols under their command
-    bits_given : all_below 9 (slice start end v) ≡ true → (c : ℕ) → command_for Bits (slice start end v) ≡ c
-        → packed_size (symbol_size c) (end - start) ≡ size_for Bits width (slice start end v)
+    bits_given : all_below 9 v ≡ true → (c : ℕ) → command_for Bits v ≡ c
+        → packed_size (symbol_size c) (length v) ≡ size_for Bits width v
     unfolding value_allowed data_for
     bits_given nine c q =
-        let value : List ℕ = slice start end v in
-        let allowed : value_allowed Bits width value ≡ true = rw (part_long, eq-eqb (end - start) width e, symbols_codes value ∙ nine) in
-        sym (size_given Bits width value allowed ∙ length_packed (command_for Bits value) value ∙ rw (q, part_long))
+        let value : List ℕ = v in
+        let allowed : value_allowed Bits width value ≡ true = rw (eq-eqb (length v) width e, symbols_codes value ∙ nine) in
+        sym (size_given Bits width value allowed ∙ length_packed (command_for Bits value) value ∙ rw q)
 
-    module _ (nine : all_below 9 (slice start end v) ≡ true) where
+    module _ (nine : all_below 9 v ≡ true) where
       -- all are one
-      bits_same : same_all (slice start end v) ≡ true → 1 ≤ width → packed_size 0 (end - start) ≡ size_for Bits width (slice start end v)
+      bits_same : same_all v ≡ true → 1 ≤ width → packed_size 0 (length v) ≡ size_for Bits width v
       bits_same s n =
-          let value : List ℕ = slice start end v in
-          let some : 1 ≤ length value = let l = part_long in omega arith in
+          let value : List ℕ = v in
+          let some : 1 ≤ length value = omega arith in
           let command : ℕ = 3 + code_of (get_or value 0 0) in
           rw (no_data command (omega arith)) at (bits_given nine command (chosen_same value nine s some))
 
-      module _ (mixed : same_all (slice start end v) ≡ false) where
-        bits_two : all_below 2 (slice start end v) ≡ true → packed_size 1 (end - start) ≡ size_for Bits width (slice start end v)
+      module _ (mixed : same_all v ≡ false) where
+        bits_two : all_below 2 v ≡ true → packed_size 1 (length v) ≡ size_for Bits width v
         unfolding symbol_size
-        bits_two h = bits_given nine 0 (chosen_0 (slice start end v) nine mixed h)
+        bits_two h = bits_given nine 0 (chosen_0 v nine mixed h)
 
-        module _ (more : all_below 2 (slice start end v) ≡ false) where
-          bits_four : all_below 4 (slice start end v) ≡ true → packed_size 2 (end - start) ≡ size_for Bits width (slice start end v)
+        module _ (more : all_below 2 v ≡ false) where
+          bits_four : all_below 4 v ≡ true → packed_size 2 (length v) ≡ size_for Bits width v
           unfolding symbol_size
-          bits_four h = bits_given nine 1 (chosen_1 (slice start end v) nine mixed more h)
+          bits_four h = bits_given nine 1 (chosen_1 v nine mixed more h)
 
-          bits_nine : all_below 4 (slice start end v) ≡ false → packed_size 4 (end - start) ≡ size_for Bits width (slice start end v)
+          bits_nine : all_below 4 v ≡ false → packed_size 4 (length v) ≡ size_for Bits width v
           unfolding symbol_size
-          bits_nine h = bits_given nine 2 (chosen_2 (slice start end v) nine mixed more h)
+          bits_nine h = bits_given nine 2 (chosen_2 v nine mixed more h)
 
       -- by what is seen
       bits_each_lem : 1 ≤ width
-          → packed_size (bits_each (same_all (slice start end v)) (all_below 2 (slice start end v)) (all_below 4 (slice start end v))) (end - start)
-          ≡ size_for Bits width (slice start end v)
+          → packed_size (bits_each (same_all v) (all_below 2 v) (all_below 4 v)) (length v)
+          ≡ size_for Bits width v
       unfolding bits_each
       bits_each_lem n =
-          let value : List ℕ = slice start end v in
+          let value : List ℕ = v in
           on_test (same_all value)
           (λ s. rw s (bits_same s n))
           (λ s.
@@ -291,105 +287,105 @@ module _ (v : List ℕ) (start end : ℕ) (p : Part v start end) where
           (λ t. on_test (all_below 4 value) (λ f. rw (s, t, f) (bits_four s t f)) (λ f. rw (s, t, f) (bits_nine s t f))))
 
     -- one symbol
-    pub bits_one : end - start ≡ 1 → (r : ℕ) → r ≡ (if ltb (code_of (get_or v start 0)) 9 then 0 else not_allowed) → r ≡ size_for Bits width (slice start end v)
+    pub bits_one : length v ≡ 1 → (r : ℕ) → r ≡ (if ltb (code_of (get_or v 0 0)) 9 then 0 else not_allowed) → r ≡ size_for Bits width v
     unfolding same_all all_below all packed_size
     bits_one one r er =
-        let first : ℕ = get_or v start 0 in
-        let is : slice start end v ≡ first ∷ [] = single v start end p.within one in
+        let first : ℕ = get_or v 0 0 in
+        let is : v ≡ first ∷ [] = single v one in
         on_test (ltb (code_of first) 9)
         (λ y.
-        let nine : all_below 9 (slice start end v) ≡ true = rw (is, y) in
-        let same : same_all (slice start end v) ≡ true = rw (is, eq-eqb first first refl) in
-        let none : 0 ≡ (0 * (end - start) + 7) / 8 = omega arith in
+        let nine : all_below 9 v ≡ true = rw (is, y) in
+        let same : same_all v ≡ true = rw (is, eq-eqb first first refl) in
+        let none : 0 ≡ (0 * (length v) + 7) / 8 = omega arith in
         er ∙ rw y (none ∙ bits_same nine same (omega arith)))
         (λ y.
-        let no_symbol : all_below 9 (slice start end v) ≡ false = rw (is, y) in
+        let no_symbol : all_below 9 v ≡ false = rw (is, y) in
         er ∙ rw y (bits_none no_symbol))
 
     -- bits, of which it is seen whether all are one
-    pub bits_of_two : 1 ≤ width → (same bits : Bool) → same ≡ same_all (slice start end v) → bits ≡ all_below 2 (slice start end v) → bits ≡ true
-        → (x r : ℕ) → x ≡ bool_byte (not same) → r ≡ packed_size x (end - start) → r ≡ size_for Bits width (slice start end v)
+    pub bits_of_two : 1 ≤ width → (same bits : Bool) → same ≡ same_all v → bits ≡ all_below 2 v → bits ≡ true
+        → (x r : ℕ) → x ≡ bool_byte (not same) → r ≡ packed_size x (length v) → r ≡ size_for Bits width v
     bits_of_two n same bits es eb h x r ex er =
-        let value : List ℕ = slice start end v in
+        let value : List ℕ = v in
         let two = sym eb ∙ h in
         let x-is = each_of_two same (all_below 4 value) x ex in
         let b : x ≡ bits_each (same_all value) (all_below 2 value) (all_below 4 value) = rw (← es, two) x-is in
-        er ∙ ap (λ k. packed_size k (end - start)) b ∙ bits_each_lem (below_more 2 9 (omega arith) value two) n
+        er ∙ ap (λ k. packed_size k (length v)) b ∙ bits_each_lem (below_more 2 9 (omega arith) value two) n
 
     -- symbols, of which all is seen
-    pub bits_seen : 1 ≤ width → (same bits four nine : Bool) → same ≡ same_all (slice start end v) → bits ≡ all_below 2 (slice start end v)
-        → four ≡ all_below 4 (slice start end v) → nine ≡ all_below 9 (slice start end v) → nine ≡ true
+    pub bits_seen : 1 ≤ width → (same bits four nine : Bool) → same ≡ same_all v → bits ≡ all_below 2 v
+        → four ≡ all_below 4 v → nine ≡ all_below 9 v → nine ≡ true
         → (x y z r : ℕ) → x ≡ bool_byte (not bits) → y ≡ bool_byte (not four) → z ≡ bool_byte (not same)
-        → r ≡ packed_size ((1 + x + 2 * y) * z) (end - start) → r ≡ size_for Bits width (slice start end v)
+        → r ≡ packed_size ((1 + x + 2 * y) * z) (length v) → r ≡ size_for Bits width v
     bits_seen n same bits four nine es eb ef en h x y z r ex ey ez er =
-        let value : List ℕ = slice start end v in
+        let value : List ℕ = v in
         let more : bits ≡ true → four ≡ true = λ t. ef ∙ below_more 2 4 (omega arith) value (sym eb ∙ t) in
         let sum = each_sum same bits four more x y z ex ey ez in
         let b : (1 + x + 2 * y) * z ≡ bits_each (same_all value) (all_below 2 value) (all_below 4 value) = rw (← es, ← eb, ← ef) sum in
-        er ∙ ap (λ k. packed_size k (end - start)) b ∙ bits_each_lem (sym en ∙ h) n
+        er ∙ ap (λ k. packed_size k (length v)) b ∙ bits_each_lem (sym en ∙ h) n
 
   -- ---- integers
 
-  pub integer_long : (end - start ≡ 32 → ⊥) → not_allowed ≡ size_for Integer 32 (slice start end v)
+  pub integer_long : (length v ≡ 32 → ⊥) → not_allowed ≡ size_for Integer 32 v
   unfolding value_allowed
-  integer_long n = sym (size_refused Integer 32 (slice start end v) (rw (part_long, ne_eqb (end - start) 32 n)))
+  integer_long n = sym (size_refused Integer 32 v (rw (ne_eqb (length v) 32 n)))
 
-  module _ (e : end - start ≡ 32) where
-    some : 1 ≤ length (slice start end v)
-    some = let l = part_long in omega arith
+  module _ (e : length v ≡ 32) where
+    some : 1 ≤ length v
+    some = omega arith
 
     -- bits under their command
-    integer_size : all is_bit (slice start end v) ≡ true → (c : ℕ) → command_for Integer (slice start end v) ≡ c → packed_size (symbol_size c) 32 ≡ size_for Integer 32 (slice start end v)
+    integer_size : all is_bit v ≡ true → (c : ℕ) → command_for Integer v ≡ c → packed_size (symbol_size c) 32 ≡ size_for Integer 32 v
     unfolding value_allowed data_for
     integer_size bits c q =
-        let value : List ℕ = slice start end v in
-        let allowed : value_allowed Integer 32 value ≡ true = rw (part_long, eq-eqb (end - start) 32 e, bits) in
-        sym (size_given Integer 32 value allowed ∙ length_packed (command_for Integer value) value ∙ rw (q, part_long, e))
+        let value : List ℕ = v in
+        let allowed : value_allowed Integer 32 value ≡ true = rw (eq-eqb (length v) 32 e, bits) in
+        sym (size_given Integer 32 value allowed ∙ length_packed (command_for Integer value) value ∙ rw (q, e))
 
-    pub integer_none : all_below 2 (slice start end v) ≡ false → not_allowed ≡ size_for Integer 32 (slice start end v)
+    pub integer_none : all_below 2 v ≡ false → not_allowed ≡ size_for Integer 32 v
     unfolding value_allowed
     integer_none n =
-        let value : List ℕ = slice start end v in
-        sym (size_refused Integer 32 value (rw (part_long, eq-eqb (end - start) 32 e, bits_below value ∙ n)))
+        let value : List ℕ = v in
+        sym (size_refused Integer 32 value (rw (eq-eqb (length v) 32 e, bits_below value ∙ n)))
 
-    module _ (bits : all_below 2 (slice start end v) ≡ true) where
-      are_bits : all is_bit (slice start end v) ≡ true
-      are_bits = bits_below (slice start end v) ∙ bits
+    module _ (bits : all_below 2 v ≡ true) where
+      are_bits : all is_bit v ≡ true
+      are_bits = bits_below v ∙ bits
 
-      pub integer_same : same_all (slice start end v) ≡ true → 0 ≡ size_for Integer 32 (slice start end v)
+      pub integer_same : same_all v ≡ true → 0 ≡ size_for Integer 32 v
       unfolding same_all packed_size
       integer_same s =
-          let value : List ℕ = slice start end v in
+          let value : List ℕ = v in
           let c = command_one Integer (length value) value refl (as_integer value some are_bits) (get_or value 0 0) some s in
           rw (no_data (3 + code_of (get_or value 0 0)) (omega arith)) at (integer_size are_bits (3 + code_of (get_or value 0 0)) c)
 
-      pub integer_mixed : same_all (slice start end v) ≡ false → 4 ≡ size_for Integer 32 (slice start end v)
+      pub integer_mixed : same_all v ≡ false → 4 ≡ size_for Integer 32 v
       unfolding same_all symbol_size packed_size
       integer_mixed s =
-          let value : List ℕ = slice start end v in
+          let value : List ℕ = v in
           let i = as_integer value some are_bits in
           integer_size are_bits 0 (command_0 Integer (length value) value refl i s (integer_codes (length value) value i))
 
   -- ---- reals
 
-  pub real_given : end - start ≡ 8 → 8 ≡ size_for Real 0 (slice start end v)
+  pub real_given : length v ≡ 8 → 8 ≡ size_for Real 0 v
   unfolding value_allowed data_for
-  real_given e = sym (size_given Real 0 (slice start end v) (rw (part_long, eq-eqb (end - start) 8 e)) ∙ part_long ∙ e)
+  real_given e = sym (size_given Real 0 v (rw (eq-eqb (length v) 8 e)) ∙ e)
 
-  pub real_none : (end - start ≡ 8 → ⊥) → not_allowed ≡ size_for Real 0 (slice start end v)
+  pub real_none : (length v ≡ 8 → ⊥) → not_allowed ≡ size_for Real 0 v
   unfolding value_allowed
-  real_none n = sym (size_refused Real 0 (slice start end v) (rw (part_long, ne_eqb (end - start) 8 n)))
+  real_none n = sym (size_refused Real 0 v (rw (ne_eqb (length v) 8 n)))
 
   -- ---- texts
 
-  pub text_given : no_zero (slice start end v) ≡ true → end - start + 1 ≡ size_for Text 0 (slice start end v)
+  pub text_given : no_zero v ≡ true → length v + 1 ≡ size_for Text 0 v
   unfolding value_allowed data_for
   text_given e =
-      sym (size_given Text 0 (slice start end v) e ∙ length-append (slice start end v) (0 ∷ []) ∙ ap (λ k. k + 1) part_long)
+      sym (size_given Text 0 v e ∙ length-append v (0 ∷ []))
 
-  pub text_none : no_zero (slice start end v) ≡ false → not_allowed ≡ size_for Text 0 (slice start end v)
+  pub text_none : no_zero v ≡ false → not_allowed ≡ size_for Text 0 v
   unfolding value_allowed
-  text_none e = sym (size_refused Text 0 (slice start end v) e)
+  text_none e = sym (size_refused Text 0 v e)
 
 -- ---- by the kind
 

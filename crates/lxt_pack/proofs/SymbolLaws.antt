@@ -1,12 +1,12 @@
 -- Laws of the symbols of a value: what is seen of them, and the command that follows from it.
 use mir.Val.{bool_byte}
-use Prim.Native.Nat.{ℕ, zero, suc, ◌+◌, ◌-◌, ◌≤◌, ◌<◌, min, max}
+use Prim.Native.Nat.{ℕ, zero, suc, ◌+◌, ◌≤◌, ◌<◌, min, max}
 use native.Mathlib.Omega.{arith}
 use mathlib.Core.Path.{◌≡◌, refl, sym, ap, ◌∙◌}
 use mathlib.Core.Bool.{Bool, true, false, not, ◌&&◌, ◌||◌}
 use mathlib.Core.List.{List, [], ◌∷◌, ◌++◌}
-use lib.ListN.{length, get_or, take, drop, length-drop}
-use lib.Seq.{slice, slice-cons, slice_empty, length-slice, get_or-take, get_or-drop, length-take-le}
+use lib.ListN.{length, get_or, take, drop}
+use lib.Seq.{drop-cons, drop-length}
 use lib.Dec.{ltb, eqb}
 use native.Mathlib.Decide.{ℕ_discrete, dec_le}
 use borrow.Author.Tests.{lt-ltb, le-ltb, eq-eqb, ne_eqb, eqb-true, ltb-true}
@@ -122,27 +122,6 @@ class_is b four nine x y ef en ex ey =
       ]
     ]
 
--- ---- the part that a loop goes over
-
-abbrev pub part_of : List ℕ → ℕ → ℕ → List ℕ
-part_of v start end = take (end - start) (drop start v)
-
-module _ (v : List ℕ) (start end i : ℕ) (inside : end ≤ length v) where
-  part_long : length (part_of v start end) ≡ end - start
-  part_long = let e = length-drop start v in length-take-le (end - start) (drop start v) (omega arith)
-
-  item_below : i < length (part_of v start end) → start + i < end
-  item_below h = omega (arith, part_long)
-
-  item_is : i < length (part_of v start end) → get_or (part_of v start end) i 0 ≡ get_or v (start + i) 0
-  item_is h = get_or-take (end - start) (drop start v) i 0 (omega (arith, part_long)) ∙ get_or-drop start v i 0
-
-  further : start + (i + 1) ≡ start + i + 1
-  further = omega arith
-
-  pub part_over : length (part_of v start end) ≤ i → end ≤ start + i
-  part_over h = omega (arith, part_long)
-
 -- ---- what is seen, symbol by symbol
 
 and_again : (a b c : Bool) → ((a && b) && c) ≡ (a && (b && c))
@@ -154,36 +133,26 @@ and_true true = refl
 and_true false = refl
 
 -- a test of each symbol: what was found up to i, with what is left, gives the whole
-pub record Testing (p : ℕ → Bool) (v : List ℕ) (start end : ℕ) (found : Bool) (i : ℕ) : Type 0 where
-  pub left : (found && all p (slice i end v)) ≡ all p (slice start end v)
-  pub upto : i ≤ end
+pub record Testing (p : ℕ → Bool) (v : List ℕ) (found : Bool) (i : ℕ) : Type 0 where
+  pub left : (found && all p (drop i v)) ≡ all p v
+  pub upto : i ≤ length v
 
-module _ (p : ℕ → Bool) (v : List ℕ) (start end : ℕ) where
-  pub test_begun : start ≤ end → Testing p v start end true start
-  test_begun h = record { left = refl; upto = h }
+module _ (p : ℕ → Bool) (v : List ℕ) where
+  pub test_begun : Testing p v true 0
+  test_begun = record { left = refl; upto = omega arith }
 
-  test_turn : (found : Bool) (i : ℕ) → Testing p v start end found i → end ≤ length v → i < end → (q : Bool) → q ≡ p (get_or v i 0)
-      → Testing p v start end (found && q) (i + 1)
+  pub test_turn : (found : Bool) (i : ℕ) → Testing p v found i → i < length v → (q : Bool) → q ≡ p (get_or v i 0) → Testing p v (found && q) (i + 1)
   unfolding all
-  test_turn found i w inside h q e =
+  test_turn found i w h q e =
       let one : i + 1 ≡ suc i = omega arith in
-      let next : slice i end v ≡ get_or v i 0 ∷ slice (i + 1) end v = rw one (slice-cons i end v 0 h inside) in
-      record {
-        left = and_again found q (all p (slice (i + 1) end v)) ∙ rw e (rw next at w.left);
-        upto = omega arith;
-      }
+      let next : drop i v ≡ get_or v i 0 ∷ drop (i + 1) v = rw one (drop-cons v i 0 h) in
+      record { left = and_again found q (all p (drop (i + 1) v)) ∙ rw e (rw next at w.left); upto = omega arith }
 
-  pub test_item : (found : Bool) (i : ℕ) → Testing p v start end found (start + i) → end ≤ length v → i < length (part_of v start end)
-      → (q : Bool) → q ≡ p (get_or (part_of v start end) i 0) → Testing p v start end (found && q) (start + (i + 1))
-  test_item found i w inside h q e =
-      rw (further v start end i inside)
-      (test_turn found (start + i) w inside (item_below v start end i inside h) q (e ∙ ap p (item_is v start end i inside h)))
-
-  pub test_ended : (found : Bool) (i : ℕ) → Testing p v start end found i → end ≤ i → found ≡ all p (slice start end v)
+  pub test_ended : (found : Bool) (i : ℕ) → Testing p v found i → length v ≤ i → found ≡ all p v
   unfolding all
   test_ended found i w h =
-      let e : i ≡ end = omega (arith, w.upto) in
-      let none : slice i end v ≡ [] = rw e (slice_empty end v) in
+      let e : i ≡ length v = omega (arith, w.upto) in
+      let none : drop i v ≡ [] = rw e (drop-length v) in
       sym (and_true found) ∙ (rw none at w.left)
 
 -- ---- what is seen, by the lowest and the highest
@@ -215,12 +184,12 @@ range_is_bit b h k =
       | no n ↦ sym (bit_is b) ∙ rw (ne_eqb b 48 n, eq-eqb b 49 (omega (arith, n)))
     ]
 
--- the symbols from `start` up to i are between two numbers, whose tests are those of the symbols
-pub record Ranged (v : List ℕ) (start end first low high i : ℕ) : Type 0 where
+-- the symbols up to i are between two numbers, whose tests are those of the symbols
+pub record Ranged (v : List ℕ) (first low high i : ℕ) : Type 0 where
   pub below : low ≤ first
   pub above : first ≤ high
-  pub same : Testing (λ b. eqb b first) v start end (eqb low high) i
-  pub bits : Testing (λ b. ltb (code_of b) 2) v start end (ltb (code_of low) 2 && ltb (code_of high) 2) i
+  pub same : Testing (λ b. eqb b first) v (eqb low high) i
+  pub bits : Testing (λ b. ltb (code_of b) 2) v (ltb (code_of low) 2 && ltb (code_of high) 2) i
 
 module _ (low high symbol low' high' : ℕ) (l : Lower low symbol low') (h : Higher high symbol high') where
   same_turn : (first : ℕ) → low ≤ first → first ≤ high → eqb low' high' ≡ (eqb low high && eqb symbol first)
@@ -273,31 +242,37 @@ module _ (low high symbol low' high' : ℕ) (l : Lower low symbol low') (h : Hig
       both_and (ltb (code_of low') 2) (ltb (code_of high') 2) (range_is_bit low' (omega arith) (omega arith)) (range_is_bit high' (omega arith) (omega arith)))
 
 -- a test with another name
-test_as : (p : ℕ → Bool) (v : List ℕ) (start end : ℕ) (found found' : Bool) (i : ℕ) → found' ≡ found → Testing p v start end found i → Testing p v start end found' i
-test_as p v start end found found' i e w = record { left = rw e w.left; upto = w.upto }
+test_as : (p : ℕ → Bool) (v : List ℕ) (found found' : Bool) (i : ℕ) → found' ≡ found → Testing p v found i → Testing p v found' i
+test_as p v found found' i e w = record { left = rw e w.left; upto = w.upto }
 
-module _ (v : List ℕ) (start end : ℕ) (some : start < end) (inside : end ≤ length v) where
-  pub ranged_begun : Ranged v start end (get_or v start 0) (get_or v start 0) (get_or v start 0) start
+module _ (v : List ℕ) where
+  pub ranged_begun : 0 < length v → Ranged v (get_or v 0 0) (get_or v 0 0) (get_or v 0 0) 0
   unfolding all
-  ranged_begun =
-      let first : ℕ = get_or v start 0 in
-      let next : slice start end v ≡ first ∷ slice (suc start) end v = slice-cons start end v 0 some inside in
-      let one = test_begun (λ b. eqb b first) v start end (omega arith) in
+  ranged_begun some =
+      let first : ℕ = get_or v 0 0 in
+      let next : v ≡ first ∷ drop 1 v = drop-cons v 0 0 some in
       record {
         below = omega arith;
         above = omega arith;
-        same = test_as (λ b. eqb b first) v start end true (eqb first first) start (eq-eqb first first refl) one;
-        bits = record { left = rw next (again (ltb (code_of first) 2) (all (λ b. ltb (code_of b) 2) (slice (suc start) end v))); upto = omega arith };
+        same = test_as (λ b. eqb b first) v true (eqb first first) 0 (eq-eqb first first refl) (test_begun (λ b. eqb b first) v);
+        bits = record { left = again (ltb (code_of first) 2) (all (λ b. ltb (code_of b) 2) v) (head v some); upto = omega arith };
       }
     where
-      again : (a b : Bool) → ((a && a) && (a && b)) ≡ (a && b)
-      again true b = refl
-      again false b = refl
+      again : (a b : Bool) → (b ≡ true → a ≡ true) → ((a && a) && b) ≡ b
+      again true b f = refl
+      again false true f = f refl
+      again false false f = refl
 
-  ranged_turn : (first low high i low' high' : ℕ) → Ranged v start end first low high i → i < end
-      → Lower low (get_or v i 0) low' → Higher high (get_or v i 0) high' → Ranged v start end first low' high' (i + 1)
-  ranged_turn first low high i low' high' w less l h =
+      head : (l : List ℕ) → 0 < length l → all (λ b. ltb (code_of b) 2) l ≡ true → ltb (code_of (get_or l 0 0)) 2 ≡ true
+      head [] h e = absurd (omega arith)
+      head (x ∷ l) h e = (and_both (ltb (code_of x) 2) (all (λ b. ltb (code_of b) 2) l) (unfold all in e)).0
+
+  pub ranged_turn : (first low high i low' high' : ℕ) → Ranged v first low high i → i < length v
+      → low' ≡ min low (get_or v i 0) → high' ≡ max high (get_or v i 0) → Ranged v first low' high' (i + 1)
+  ranged_turn first low high i low' high' w less el eh =
       let symbol : ℕ = get_or v i 0 in
+      let l = lower_of low symbol low' el in
+      let h = higher_of high symbol high' eh in
       let a = w.below in
       let b = w.above in
       let l0 = l.left in
@@ -305,22 +280,24 @@ module _ (v : List ℕ) (start end : ℕ) (some : start < end) (inside : end ≤
       record {
         below = omega arith;
         above = omega arith;
-        same = test_as (λ b. eqb b first) v start end (eqb low high && eqb symbol first) (eqb low' high') (i + 1)
+        same = test_as (λ b. eqb b first) v (eqb low high && eqb symbol first) (eqb low' high') (i + 1)
             (same_turn low high symbol low' high' l h first a b)
-            (test_turn (λ b. eqb b first) v start end (eqb low high) i w.same inside less (eqb symbol first) refl);
-        bits = test_as (λ b. ltb (code_of b) 2) v start end ((ltb (code_of low) 2 && ltb (code_of high) 2) && ltb (code_of symbol) 2)
+            (test_turn (λ b. eqb b first) v (eqb low high) i w.same less (eqb symbol first) refl);
+        bits = test_as (λ b. ltb (code_of b) 2) v ((ltb (code_of low) 2 && ltb (code_of high) 2) && ltb (code_of symbol) 2)
             (ltb (code_of low') 2 && ltb (code_of high') 2) (i + 1)
             (bits_turn low high symbol low' high' l h (omega arith))
-            (test_turn (λ b. ltb (code_of b) 2) v start end (ltb (code_of low) 2 && ltb (code_of high) 2) i w.bits inside less (ltb (code_of symbol) 2) refl);
+            (test_turn (λ b. ltb (code_of b) 2) v (ltb (code_of low) 2 && ltb (code_of high) 2) i w.bits less (ltb (code_of symbol) 2) refl);
       }
 
-  pub ranged_item : (first low high i low' high' : ℕ) → Ranged v start end first low high (start + i) → i < length (part_of v start end)
-      → low' ≡ min low (get_or (part_of v start end) i 0) → high' ≡ max high (get_or (part_of v start end) i 0) → Ranged v start end first low' high' (start + (i + 1))
-  ranged_item first low high i low' high' w h l m =
-      let item = item_is v start end i inside h in
-      rw (further v start end i inside)
-      (ranged_turn first low high (start + i) low' high' w (item_below v start end i inside h)
-      (lower_of _ _ _ (l ∙ ap (λ x. min low x) item)) (higher_of _ _ _ (m ∙ ap (λ x. max high x) item)))
+  pub ranged_same : (low high i : ℕ) → Ranged v (get_or v 0 0) low high i → length v ≤ i → eqb low high ≡ same_all v
+  unfolding same_all
+  ranged_same low high i w over = test_ended (λ b. eqb b (get_or v 0 0)) v (eqb low high) i w.same over
+
+  pub ranged_bits : (first low high i : ℕ) → Ranged v first low high i → length v ≤ i → (x y : Bool) → x ≡ ltb (code_of low) 2 → y ≡ ltb (code_of high) 2
+      → (x && y) ≡ all_below 2 v
+  unfolding all_below
+  ranged_bits first low high i w over x y ex ey =
+      rw (ex, ey) (test_ended (λ b. ltb (code_of b) 2) v (ltb (code_of low) 2 && ltb (code_of high) 2) i w.bits over)
 
 -- ---- what is seen, by the highest class
 
@@ -341,68 +318,33 @@ higher_below (suc k) a b r h =
     let least = h.least k (omega arith) (omega arith) in
     lt-ltb r (suc k) (omega arith))
 
--- the highest class of the symbols from `start` up to i tells whether their codes are below 4, and 9
-pub record Classes (v : List ℕ) (start end class i : ℕ) : Type 0 where
-  pub four : Testing (λ b. ltb (code_of b) 4) v start end (ltb class 1) i
-  pub nine : Testing (λ b. ltb (code_of b) 9) v start end (ltb class 2) i
+-- the highest class of the symbols up to i tells whether their codes are below 4, and 9
+pub record Classes (v : List ℕ) (class i : ℕ) : Type 0 where
+  pub four : Testing (λ b. ltb (code_of b) 4) v (ltb class 1) i
+  pub nine : Testing (λ b. ltb (code_of b) 9) v (ltb class 2) i
 
-module _ (v : List ℕ) (start end : ℕ) where
-  pub classes_begun : start ≤ end → Classes v start end 0 start
-  classes_begun h = record { four = test_begun (λ b. ltb (code_of b) 4) v start end h; nine = test_begun (λ b. ltb (code_of b) 9) v start end h }
+module _ (v : List ℕ) where
+  pub classes_begun : Classes v 0 0
+  classes_begun = record { four = test_begun (λ b. ltb (code_of b) 4) v; nine = test_begun (λ b. ltb (code_of b) 9) v }
 
-  class_turn : (k bound class i c class' : ℕ) → Testing (λ b. ltb (code_of b) bound) v start end (ltb class k) i → end ≤ length v → i < end
-      → ltb c k ≡ ltb (code_of (get_or v i 0)) bound → Higher class c class' → Testing (λ b. ltb (code_of b) bound) v start end (ltb class' k) (i + 1)
-  class_turn k bound class i c class' w inside less e h =
-      test_as (λ b. ltb (code_of b) bound) v start end (ltb class k && ltb c k) (ltb class' k) (i + 1) (higher_below k class c class' h)
-      (test_turn (λ b. ltb (code_of b) bound) v start end (ltb class k) i w inside less (ltb c k) e)
+  class_turn : (k bound class i c class' : ℕ) → Testing (λ b. ltb (code_of b) bound) v (ltb class k) i → i < length v
+      → ltb c k ≡ ltb (code_of (get_or v i 0)) bound → Higher class c class' → Testing (λ b. ltb (code_of b) bound) v (ltb class' k) (i + 1)
+  class_turn k bound class i c class' w less e h =
+      test_as (λ b. ltb (code_of b) bound) v (ltb class k && ltb c k) (ltb class' k) (i + 1) (higher_below k class c class' h)
+      (test_turn (λ b. ltb (code_of b) bound) v (ltb class k) i w less (ltb c k) e)
 
-  classes_turn : (class i c class' : ℕ) → Classes v start end class i → end ≤ length v → i < end → Classed (get_or v i 0) c → Higher class c class'
-      → Classes v start end class' (i + 1)
-  classes_turn class i c class' w inside less is h =
-      record {
-        four = class_turn 1 4 class i c class' w.four inside less is.four h;
-        nine = class_turn 2 9 class i c class' w.nine inside less is.nine h;
-      }
+  pub classes_turn : (class i c class' : ℕ) → Classes v class i → i < length v → Classed (get_or v i 0) c → class' ≡ max class c → Classes v class' (i + 1)
+  classes_turn class i c class' w less is m =
+      let h = higher_of class c class' m in
+      record { four = class_turn 1 4 class i c class' w.four less is.four h; nine = class_turn 2 9 class i c class' w.nine less is.nine h }
 
-  pub classes_item : (class i c class' : ℕ) → Classes v start end class (start + i) → end ≤ length v → i < length (part_of v start end)
-      → Classed (get_or (part_of v start end) i 0) c → class' ≡ max class c → Classes v start end class' (start + (i + 1))
-  classes_item class i c class' w inside h is m =
-      let is' : Classed (get_or v (start + i) 0) c = rw (item_is v start end i inside h) at is in
-      rw (further v start end i inside)
-      (classes_turn class (start + i) c class' w inside (item_below v start end i inside h) is' (higher_of _ _ _ m))
-
-  pub classes_four : (class i : ℕ) → Classes v start end class i → end ≤ i → ltb class 1 ≡ all_below 4 (slice start end v)
+  pub classes_four : (class i : ℕ) → Classes v class i → length v ≤ i → ltb class 1 ≡ all_below 4 v
   unfolding all_below
-  classes_four class i w over = test_ended (λ b. ltb (code_of b) 4) v start end (ltb class 1) i w.four over
+  classes_four class i w over = test_ended (λ b. ltb (code_of b) 4) v (ltb class 1) i w.four over
 
-  pub classes_nine : (class i : ℕ) → Classes v start end class i → end ≤ i → ltb class 2 ≡ all_below 9 (slice start end v)
+  pub classes_nine : (class i : ℕ) → Classes v class i → length v ≤ i → ltb class 2 ≡ all_below 9 v
   unfolding all_below
-  classes_nine class i w over = test_ended (λ b. ltb (code_of b) 9) v start end (ltb class 2) i w.nine over
-
--- ---- the first symbol of a part
-
-pub part_some : (v : List ℕ) (start end : ℕ) → start < end → end ≤ length v → 1 ≤ length (slice start end v)
-part_some v start end h k = let e = length-slice start end v k in omega arith
-
-pub first_of : (v : List ℕ) (start end : ℕ) → start < end → end ≤ length v → get_or v start 0 ≡ get_or (slice start end v) 0 0
-first_of v start end h k = rw (slice-cons start end v 0 h k)
-
--- the first symbol of a part is the first of all
-pub look_same : (v : List ℕ) (start end : ℕ) → start < end → end ≤ length v → (same : Bool) → same ≡ all (λ b. eqb b (get_or v start 0)) (slice start end v)
-    → same ≡ same_all (slice start end v)
-unfolding same_all
-look_same v start end h inside same e = e ∙ ap (λ x. all (λ b. eqb b x) (slice start end v)) (first_of v start end h inside)
-
-pub ranged_same : (v : List ℕ) (start end : ℕ) → start < end → end ≤ length v → (low high i : ℕ) → Ranged v start end (get_or v start 0) low high i → end ≤ i
-    → eqb low high ≡ same_all (slice start end v)
-ranged_same v start end h inside low high i w over =
-    look_same v start end h inside (eqb low high) (test_ended (λ b. eqb b (get_or v start 0)) v start end (eqb low high) i w.same over)
-
-pub ranged_bits : (v : List ℕ) (start end first low high i : ℕ) → Ranged v start end first low high i → end ≤ i → (x y : Bool) → x ≡ ltb (code_of low) 2 → y ≡ ltb (code_of high) 2
-    → (x && y) ≡ all_below 2 (slice start end v)
-unfolding all_below
-ranged_bits v start end first low high i w over x y ex ey =
-    rw (ex, ey) (test_ended (λ b. ltb (code_of b) 2) v start end (ltb (code_of low) 2 && ltb (code_of high) 2) i w.bits over)
+  classes_nine class i w over = test_ended (λ b. ltb (code_of b) 9) v (ltb class 2) i w.nine over
 
 -- ---- the command
 

@@ -1,5 +1,5 @@
 // One change: how many bytes it takes, and its bytes.
-ghost use Rattle.std.specs.Prelude.{◌≡◌, ◌+◌, ◌*◌, ◌-◌, ◌≤◌, ◌<◌, ltb, if◌then◌else◌};
+ghost use Rattle.std.specs.Prelude.{◌≡◌, ◌+◌, ◌*◌, ◌-◌, ◌≤◌, ◌<◌, length, ltb, if◌then◌else◌};
 ghost use Rattle.std.proofs.Math.Seq.{slice};
 ghost use Rattle.lxt_format.specs.Buffers.{placed};
 ghost use Rattle.lxt_format.specs.Changes.{symbol_size, packed_size};
@@ -7,7 +7,7 @@ ghost use Rattle.lxt_format.specs.declared.Kind.TheVariants.{Bits, Integer, Real
 ghost use Rattle.lxt_written.specs.WrittenChanges.{code_of, fewest_bytes, packed_symbols};
 ghost use Rattle.lxt_pack.specs.Change.{Part, WidthFor, not_allowed, size_for, Sizes, head_of, Scales, HeadAsked, Held, Sound, Puts};
 
-use crate::{parts, put, symbols};
+use crate::{put, symbols};
 use lxt_format::Kind;
 
 // ---- how many bytes
@@ -56,24 +56,24 @@ fn size_of_one(symbol: u8) -> usize
 const MANY: usize = 64;
 
 // The bytes of the data of symbols, of which there are to be `width`.
-fn bits_size(width: u64, values: &[u8], start: usize, end: usize) -> usize
-    requires { Part values.now start end × (1 ≤ width) × (width ≤ 4096) }
-    ensures { Sizes Bits width (slice start end values.now) result }
+fn bits_size(width: u64, value: &[u8]) -> usize
+    requires { (length value.now < 4294967296) × (1 ≤ width) × (width ≤ 4096) }
+    ensures { Sizes Bits width value.now result }
 {
-    let size = end - start;
+    let size = value.len();
     if size as u64 != width {
         return NONE;
     }
     if size == 1 {
-        return size_of_one(values[start]);
+        return size_of_one(value[0]);
     }
     if MANY < size {
-        let seen = symbols::look(values, start, end);
+        let seen = symbols::look(value);
         if seen.bits {
             return packed_size(usize::from(!seen.same), size);
         }
     }
-    let seen = symbols::look_in_detail(values, start, end);
+    let seen = symbols::look_in_detail(value);
     if !seen.nine {
         return NONE;
     }
@@ -82,14 +82,14 @@ fn bits_size(width: u64, values: &[u8], start: usize, end: usize) -> usize
 }
 
 // The bytes of the data of an integer: 32 symbols 0 or 1.
-fn integer_size(values: &[u8], start: usize, end: usize) -> usize
-    requires { Part values.now start end }
-    ensures { Sizes Integer 32 (slice start end values.now) result }
+fn integer_size(value: &[u8]) -> usize
+    requires { length value.now < 4294967296 }
+    ensures { Sizes Integer 32 value.now result }
 {
-    if end - start != 32 {
+    if value.len() != 32 {
         return NONE;
     }
-    let seen = symbols::look(values, start, end);
+    let seen = symbols::look(value);
     if seen.bits {
         if seen.same {
             return 0;
@@ -99,36 +99,36 @@ fn integer_size(values: &[u8], start: usize, end: usize) -> usize
     NONE
 }
 
-fn real_size(values: &[u8], start: usize, end: usize) -> usize
-    requires { Part values.now start end }
-    ensures { Sizes Real 0 (slice start end values.now) result }
+fn real_size(value: &[u8]) -> usize
+    requires { length value.now < 4294967296 }
+    ensures { Sizes Real 0 value.now result }
 {
-    if end - start == 8 {
+    if value.len() == 8 {
         return 8;
     }
     NONE
 }
 
-fn text_size(values: &[u8], start: usize, end: usize) -> usize
-    requires { Part values.now start end }
-    ensures { Sizes Text 0 (slice start end values.now) result }
+fn text_size(value: &[u8]) -> usize
+    requires { length value.now < 4294967296 }
+    ensures { Sizes Text 0 value.now result }
 {
-    if parts::no_zero(values, start, end) {
-        return end - start + 1;
+    if value.contains(&0) {
+        return NONE;
     }
-    NONE
+    value.len() + 1
 }
 
 // The bytes of a value's data, or NONE.
-fn data_size(kind: Kind, width: u64, values: &[u8], start: usize, end: usize) -> usize
-    requires { Part values.now start end × WidthFor kind width }
-    ensures { Sizes kind width (slice start end values.now) result }
+fn data_size(kind: Kind, width: u64, value: &[u8]) -> usize
+    requires { (length value.now < 4294967296) × WidthFor kind width }
+    ensures { Sizes kind width value.now result }
 {
     match kind {
-        Kind::Bits => bits_size(width, values, start, end),
-        Kind::Integer => integer_size(values, start, end),
-        Kind::Real => real_size(values, start, end),
-        Kind::Text => text_size(values, start, end),
+        Kind::Bits => bits_size(width, value),
+        Kind::Integer => integer_size(value),
+        Kind::Real => real_size(value),
+        Kind::Text => text_size(value),
     }
 }
 
@@ -138,7 +138,7 @@ pub fn size_of(kind: Kind, width: u64, values: &[u8], start: usize, end: usize, 
     requires { Part values.now start end × WidthFor kind width }
     ensures { (result ≡ 1 + fewest_bytes delta + size_for kind width (slice start end values.now)) × (result ≤ 5 + not_allowed) }
 {
-    1 + delta_size(delta) + data_size(kind, width, values, start, end)
+    1 + delta_size(delta) + data_size(kind, width, &values[start..end])
 }
 
 // ---- its bytes
@@ -203,7 +203,7 @@ fn put_bits(values: &[u8], start: usize, end: usize, delta: u32, out: &mut [u8],
     requires { Sound Bits values.now start end delta out.old at }
     ensures { Puts Bits (slice start end values.now) delta out.old at out.new result }
 {
-    let command = symbols::command_of_symbols(values, start, end);
+    let command = symbols::command_of_symbols(&values[start..end]);
     let data = put_head(command, delta, out, at);
     put_symbols(values, start, end, command, out, data)
 }

@@ -61,13 +61,13 @@ pub struct Seen {
 }
 
 // By the lowest and the highest of the symbols, which the compiler finds many at a time.
-pub fn look(values: &[u8], start: usize, end: usize) -> Seen
-    requires { (start < end) × (end ≤ length values.now) }
-    ensures { (result.same ≡ same_all (slice start end values.now)) × (result.bits ≡ all_below 2 (slice start end values.now)) }
+pub fn look(value: &[u8]) -> Seen
+    requires { 0 < length value.now }
+    ensures { (result.same ≡ same_all value.now) × (result.bits ≡ all_below 2 value.now) }
 {
-    let mut low = values[start];
-    let mut high = values[start];
-    for symbol in &values[start..end] {
+    let mut low = value[0];
+    let mut high = value[0];
+    for symbol in value {
         low = low.min(*symbol);
         high = high.max(*symbol);
     }
@@ -93,15 +93,15 @@ pub struct Detail {
 }
 
 // All at once, so that what follows needs no branch that depends on the symbols.
-pub fn look_in_detail(values: &[u8], start: usize, end: usize) -> Detail
-    requires { (start < end) × (end ≤ length values.now) }
-    ensures same_value { (result.same ≡ same_all (slice start end values.now)) × (result.bits ≡ all_below 2 (slice start end values.now)) }
-    ensures four_value { (result.four ≡ all_below 4 (slice start end values.now)) × (result.nine ≡ all_below 9 (slice start end values.now)) }
+pub fn look_in_detail(value: &[u8]) -> Detail
+    requires { 0 < length value.now }
+    ensures same_value { (result.same ≡ same_all value.now) × (result.bits ≡ all_below 2 value.now) }
+    ensures four_value { (result.four ≡ all_below 4 value.now) × (result.nine ≡ all_below 9 value.now) }
 {
-    let mut low = values[start];
-    let mut high = values[start];
+    let mut low = value[0];
+    let mut high = value[0];
     let mut class: u8 = 0;
-    for symbol in &values[start..end] {
+    for symbol in value {
         low = low.min(*symbol);
         high = high.max(*symbol);
         class = class.max(class_of(*symbol));
@@ -114,30 +114,30 @@ pub fn look_in_detail(values: &[u8], start: usize, end: usize) -> Detail
     }
 }
 
-fn all_of_four(values: &[u8], start: usize, end: usize) -> bool
-    requires { (start < end) × (end ≤ length values.now) }
-    ensures { result ≡ all_below 4 (slice start end values.now) }
+fn all_of_four(value: &[u8]) -> bool
+    requires { 0 < length value.now }
+    ensures { result ≡ all_below 4 value.now }
 {
     let mut four = true;
-    for symbol in &values[start..end] {
+    for symbol in value {
         four = four & is_one_of_four(*symbol);
     }
     four
 }
 
 // The command that holds symbols in the fewest bytes.
-pub fn command_of_symbols(values: &[u8], start: usize, end: usize) -> u8
-    requires { (start < end) × (end ≤ length values.now) × (all is_symbol (slice start end values.now) ≡ true) }
-    ensures { result ≡ command_for Bits (slice start end values.now) }
+pub fn command_of_symbols(value: &[u8]) -> u8
+    requires { (0 < length value.now) × (all is_symbol value.now ≡ true) }
+    ensures { result ≡ command_for Bits value.now }
 {
-    let seen = look(values, start, end);
+    let seen = look(value);
     if seen.same {
-        return 3 + code_of(values[start]);
+        return 3 + code_of(value[0]);
     }
     if seen.bits {
         return 0;
     }
-    if all_of_four(values, start, end) {
+    if all_of_four(value) {
         return 1;
     }
     2

@@ -11,7 +11,7 @@ pub returns-then-size-eq1 : goal.returns-then-size-eq1
 returns-then-size-eq1 c =
     let long = c.if-size-width.false in
     let size = c.size_of_one.ensures in
-    record { is = bits_one _ _ _ c.requires.0 _ long c.if-size-eq1.true _ size.0; most = size.1 }
+    record { is = bits_one _ _ long c.if-size-eq1.true _ size.0; most = size.1 }
 
 pub returns-then-seen : goal.returns-then-seen
 returns-then-seen c =
@@ -20,7 +20,7 @@ returns-then-seen c =
     let bits = c.if-seen.true in
     let size = c.packed_size.ensures in
     record {
-      is = bits_of_two _ _ _ c.requires.0 _ long c.requires.1 _ _ seen.0 seen.1 bits _ _ c.from.ensures size.0;
+      is = bits_of_two _ _ long c.requires.1 _ _ seen.0 seen.1 bits _ _ c.from.ensures size.0;
       most = omega arith;
     }
 
@@ -29,7 +29,7 @@ returns-then-not-seen c =
     let long = c.if-size-width.false in
     let detail = c.look_in_detail-seen.ensures in
     let none = sym detail.four_value.1 ∙ not-true _ c.if-not-seen.true in
-    record { is = bits_none _ _ _ c.requires.0 _ long none; most = omega arith }
+    record { is = bits_none _ _ long none; most = omega arith }
 
 pub overflow_mul-b-2 : goal.overflow_mul-b-2
 overflow_mul-b-2 c =
@@ -52,6 +52,6 @@ returns c =
     let same = c.from-4.ensures in
     let size = c.packed_size-2.ensures in
     record {
-      is = bits_seen _ _ _ c.requires.0 _ long c.requires.1 _ _ _ _ detail.same_value.0 detail.same_value.1 detail.four_value.0 detail.four_value.1 nine _ _ _ _ bits four same size.0;
+      is = bits_seen _ _ long c.requires.1 _ _ _ _ detail.same_value.0 detail.same_value.1 detail.four_value.0 detail.four_value.1 nine _ _ _ _ bits four same size.0;
       most = omega arith;
     }

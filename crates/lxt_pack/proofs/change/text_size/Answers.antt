@@ -1,10 +1,16 @@
-use mathlib.Core.Path.{sym, ◌∙◌}
+use mathlib.Core.Path.{sym, ap, ◌∙◌}
+use mathlib.Core.Bool.{not}
 use native.Mathlib.Omega.{arith}
+use Rattle.lxt_pack.proofs.PartLaws.{none_zero}
 use Rattle.lxt_pack.proofs.SizeLaws.{text_given, text_none}
 use Rattle.lxt_pack.proofs.change.text_size.Goals as goal
 
-pub returns-then-no_zero : goal.returns-then-no_zero
-returns-then-no_zero c = record { is = text_given _ _ _ c.requires (sym c.no_zero.ensures ∙ c.if-no_zero.true); most = omega arith }
+pub returns-then-contains : goal.returns-then-contains
+returns-then-contains c =
+    let zero = sym c.contains.ensures.value ∙ c.if-contains.true in
+    record { is = text_none _ (sym (none_zero _) ∙ ap not zero); most = omega arith }
 
 pub returns : goal.returns
-returns c = record { is = text_none _ _ _ c.requires (sym c.no_zero.ensures ∙ c.if-no_zero.false); most = omega arith }
+returns c =
+    let none = sym c.contains.ensures.value ∙ c.if-contains.false in
+    record { is = text_given _ (sym (none_zero _) ∙ ap not none); most = omega arith }

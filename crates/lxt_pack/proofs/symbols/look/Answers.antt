@@ -1,16 +1,14 @@
-use native.Mathlib.Nat.{add-zero}
-use Rattle.lxt_pack.proofs.SymbolLaws.{ranged_begun, ranged_item, ranged_same, ranged_bits, part_over}
+use Rattle.lxt_pack.proofs.SymbolLaws.{ranged_begun, ranged_turn, ranged_same, ranged_bits}
 use Rattle.lxt_pack.proofs.symbols.look.Goals as goal
 
 pub loop-symbol-init : goal.loop-symbol-init
-loop-symbol-init c = rw (add-zero c.args.start) (ranged_begun _ _ _ c.requires.0 c.requires.1)
+loop-symbol-init c = ranged_begun _ c.requires
 
 pub loop-symbol-preserved : goal.loop-symbol-preserved
-loop-symbol-preserved c =
-    ranged_item _ _ _ c.requires.0 c.requires.1 _ _ _ _ _ _ c.loop-symbol.invariant c.loop-symbol-test.true c.min-low.ensures c.max-high.ensures
+loop-symbol-preserved c = ranged_turn _ _ _ _ _ _ _ c.loop-symbol.invariant c.loop-symbol-test.true c.min-low.ensures c.max-high.ensures
 
 pub returns : goal.returns
 returns c =
     let seen = c.loop-symbol.invariant in
-    let over = part_over _ _ _ _ c.requires.1 c.loop-symbol-test.false in
-    (ranged_same _ _ _ c.requires.0 c.requires.1 _ _ _ seen over, ranged_bits _ _ _ _ _ _ _ seen over _ _ c.is_bit.ensures c.is_bit-2.ensures)
+    let over = c.loop-symbol-test.false in
+    (ranged_same _ _ _ _ seen over, ranged_bits _ _ _ _ _ seen over _ _ c.is_bit.ensures c.is_bit-2.ensures)
