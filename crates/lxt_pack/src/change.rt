@@ -113,10 +113,10 @@ fn text_size(value: &[u8]) -> usize
     requires { length value.now < 4294967296 }
     ensures { Sizes Text 0 value.now result }
 {
-    if value.contains(&0) {
-        return NONE;
+    if !value.contains(&0) {
+        return value.len() + 1;
     }
-    value.len() + 1
+    NONE
 }
 
 // The bytes of a value's data, or NONE.

@@ -5,12 +5,12 @@ use Rattle.lxt_pack.proofs.PartLaws.{none_zero}
 use Rattle.lxt_pack.proofs.SizeLaws.{text_given, text_none}
 use Rattle.lxt_pack.proofs.change.text_size.Goals as goal
 
-pub returns-then-contains : goal.returns-then-contains
-returns-then-contains c =
-    let zero = sym c.contains.ensures.value ∙ c.if-contains.true in
-    record { is = text_none _ (sym (none_zero _) ∙ ap not zero); most = omega arith }
+pub returns-then-not-contains : goal.returns-then-not-contains
+returns-then-not-contains c =
+    let none = ap not c.contains.ensures.value ∙ none_zero c.args.value.now in
+    record { is = text_given _ (sym none ∙ ap not c.if-not-contains.true); most = omega arith }
 
 pub returns : goal.returns
 returns c =
-    let none = sym c.contains.ensures.value ∙ c.if-contains.false in
-    record { is = text_given _ (sym (none_zero _) ∙ ap not none); most = omega arith }
+    let none = ap not c.contains.ensures.value ∙ none_zero c.args.value.now in
+    record { is = text_none _ (sym none ∙ ap not c.if-not-contains.false); most = omega arith }
