@@ -18,14 +18,14 @@ use Rattle.lxt_format.specs.Sections.{changes_from, end_of}
 use Rattle.lxt_format.specs.Changes.{signal, command_of, data_at, command_allowed, symbol_size, packed_size, codes_allowed, padding_clean, data_size, data_allowed, change_end, fault_at}
 use Rattle.lxt_format.specs.declared.Kind.{Kind}
 use Rattle.lxt_format.specs.declared.Kind.TheVariants.{Bits, Integer, Real, Text}
+use Rattle.std.specs.Prelude.{Option, Some, None, is_some}
 use Rattle.lxt_changes.specs.Windows.{Known, Answered, Data}
 use Rattle.lxt_changes.specs.Faults.{LastZero, body_fault}
 use Rattle.lxt_changes.specs.Keeping.{head_kept, symbols_kept}
 use Rattle.lxt_changes.proofs.CodeLaws.{codes_none, codes_small}
 use Rattle.lxt_changes.proofs.FaultLaws.{symbol_cases, text_in, text_out}
-use Rattle.lxt_changes.proofs.KeepLaws.{head_start, head_breaks, symbols_keep, real_keeps, text_keeps}
+use Rattle.lxt_changes.proofs.KeepLaws.{head_start, head_fails, symbols_decide, real_decide, text_decide}
 use Rattle.lxt_changes.specs.declared.symbols.Window.{Window}
-use Rattle.lxt_changes.specs.declared.symbols.Checked.{Checked}
 use Rattle.lxt_chains.specs.Reading.{Ready}
 use Rattle.lxt_chains.specs.Groups.{has, width_as, kept_as, others_kept, FaultAs, FaultyAt, Judges}
 use Rattle.lxt_chains.specs.declared.chains.Chains.{Chains}
@@ -100,16 +100,13 @@ module _ (s : List ℕ) (c : Chains) (w : Ready s c) (asked : Bool) (o : ℕ) wh
 
   module _ (h : asked ≡ true) (kind : Kind) (z : Bool) (ez : z ≡ head_kept s c.from c.end kind o) where
     pub wrong_head : z ≡ false → (width : ℕ) → false ≡ kept_as s asked kind width o
-    wrong_head f width = told kind width false h (head_breaks s c.from c.end kind width o z ez f).kept
+    wrong_head f width = told kind width false h (head_fails s c.from c.end kind width o z ez f)
 
   symbols_told : (kind : Kind) (width : ℕ) → (kind ≡ Bits) ⊎ (kind ≡ Integer) → asked ≡ true → head_kept s c.from c.end kind o ≡ true
       → (r : Bool) → r ≡ symbols_kept s c.end width o → r ≡ kept_as s asked kind width o
   symbols_told kind width k h head r e =
-      let b : ℕ = symbol_size (command_of s o) in
       told kind width r h
-      (symbols_keep s c.from c.end kind width o true (sym head) refl k
-      (record { kept = r; clean = padding_clean s b width (data_at s o); end = data_at s o + packed_size b width })
-      (record { kept = e; clean = λ _. refl; end = λ _. refl })).kept
+      (symbols_decide s c.from c.end kind width o true (sym head) refl k r e)
 
   pub integer_told : asked ≡ true → (z : Bool) → z ≡ head_kept s c.from c.end Integer o → z ≡ true
       → (r : Bool) → r ≡ leb (data_at s o + packed_size (symbol_size (command_of s o)) 32) c.end → r ≡ kept_as s asked Integer 32 o
@@ -121,12 +118,12 @@ module _ (s : List ℕ) (c : Chains) (w : Ready s c) (asked : Bool) (o : ℕ) wh
 
   module _ (h : asked ≡ true) (at : ℕ) (ea : at ≡ data_at s o) where
     pub real_told : (q : Bool) → q ≡ head_kept s c.from c.end Real o → q ≡ true → leb (at + 8) c.end ≡ kept_as s asked Real 0 o
-    real_told q eq hq = told Real 0 (leb (at + 8) c.end) h (real_keeps s c.from c.end Real 0 o q eq hq at ea refl).kept
+    real_told q eq hq = told Real 0 (leb (at + 8) c.end) h (real_decide s c.from c.end Real 0 o q eq hq at ea refl)
 
     pub text_told : (q : Bool) → q ≡ head_kept s c.from c.end Text o → q ≡ true → ltb at c.zero ≡ kept_as s asked Text 0 o
     text_told q eq hq =
         told Text 0 (ltb at c.zero) h
-        (rw ea (text_ends s c.end c.zero o w.zero w.within) ∙ (text_keeps s c.from c.end Text 0 o q eq hq (data_at s o) refl refl w.within _ refl).kept)
+        (rw ea (text_ends s c.end c.zero o w.zero w.within) ∙ text_decide s c.from c.end Text 0 o q eq hq (data_at s o) refl refl w.within _ refl)
 
 -- ---- all kinds but bits
 
@@ -195,18 +192,19 @@ module _ (s : List ℕ) (c : Chains) (w : Ready s c) (width o : ℕ) (window : W
               let m : data_at s o + packed_size 4 width ≤ length s = omega arith in
               record { symbols = inr (inr refl); least = omega arith; most = most; inside = rw ea m }
 
-          module _ (r : Checked) (a : Answered s (codes_allowed s 4 width at) r) where
-            codes_told : r.allowed ≡ kept_as s (not (eqb width 0)) Bits width o
+          module _ (r : Option Window) (a : Answered s (codes_allowed s 4 width at) r) where
+            codes_told : is_some r ≡ kept_as s (not (eqb width 0)) Bits width o
             unfolding symbols_kept command_of
             codes_told =
                 let e : symbol_size (byte_at s o % 16) ≡ 4 = sym eb ∙ four in
-                bits_told r.allowed (a.answer ∙ rw (← ey, hy, e, ea))
+                bits_told (is_some r) (a.answer ∙ rw (← ey, hy, e, ea))
 
-            pub wrong_codes : r.allowed ≡ false → Judges s (FaultAs s (not (eqb width 0)) Bits width o) None
-            wrong_codes h = fails s (not (eqb width 0)) Bits width o (sym h ∙ codes_told)
-
-            pub good_codes : r.allowed ≡ true → Judges s (FaultAs s (not (eqb width 0)) Bits width o) (Some r.window)
-            good_codes h = passes s (not (eqb width 0)) Bits width o (sym h ∙ codes_told) r.window a.known
+            pub codes_judge : Judges s (FaultAs s (not (eqb width 0)) Bits width o) r
+            codes_judge = by_cases r refl
+              where
+                by_cases : (q : Option Window) → r ≡ q → Judges s (FaultAs s (not (eqb width 0)) Bits width o) q
+                by_cases None e = fails s (not (eqb width 0)) Bits width o (rw e at codes_told)
+                by_cases (Some v) e = passes s (not (eqb width 0)) Bits width o (rw e at codes_told) v (a.known v e)
 
 -- ---- all kinds of a group
 

@@ -13,6 +13,7 @@ use Rattle.lxt_chains.specs.Groups.{bits_width, kind_number}
 use Rattle.lxt_chains.specs.Windows.{window, Holds, Upto}
 use Rattle.lxt_chains.specs.Free.{free_around, Ordered}
 use Rattle.lxt_chains.specs.declared.chains.Chains.{Chains}
+use Rattle.lxt_changes.specs.Keeping.{kept_with}
 use Rattle.lxt_changes.specs.declared.keep.Kept.{Kept}
 use Rattle.lxt_chains.specs.declared.sweep.Swept.{Swept}
 use Rattle.lxt_chains.specs.declared.sweep.Totals.{Totals}
@@ -39,10 +40,8 @@ abbrev pub left : List ℕ → List ℕ → List Pair
 left s os = sort (pending_changes s 0 os)
 
 -- what was found of one change
-pub record Tested (s : List ℕ) (bound f o : ℕ) (r : Kept) : Type 0 where
-  pub kept : r.kept ≡ keeps s bound (pair_of f o)
-  pub clean : r.kept ≡ true → r.clean ≡ padding_of s (pair_of f o)
-  pub end : r.kept ≡ true → r.end ≡ end_at s (pair_of f o)
+pub record Tested (s : List ℕ) (bound f o : ℕ) (r : Option Kept) : Type 0 where
+  pub told : r ≡ kept_with (keeps s bound (pair_of f o)) (padding_of s (pair_of f o)) (end_at s (pair_of f o))
 
 -- the kind and width of a root as a group of its own (Groups)
 pub record OfRoot (s : List ℕ) (f width kinds : ℕ) : Type 0 where

@@ -92,11 +92,7 @@ fn bits_pass(file: &[u8], c: Chains, width: u32, o: usize, w: Window) -> Option<
     if symbols::size_of(file[o]) != 4 {
         return Some(w);
     }
-    let checked = symbols::codes_allowed(file, 4, width, delta::data_at(file, o), w);
-    if !checked.allowed {
-        return None;
-    }
-    Some(checked.window)
+    symbols::codes_allowed(file, 4, width, delta::data_at(file, o), w)
 }
 
 // The change at `o` has no fault for any kind of a group. Most groups are of bits alone.

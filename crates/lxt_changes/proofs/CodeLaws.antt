@@ -2,21 +2,23 @@
 use Prim.Native.Nat.{ℕ, zero, suc, ◌+◌, ◌*◌, ◌-◌, ◌≤◌, ◌<◌, ◌/◌, ◌%◌, ◌^◌}
 use mathlib.Core.Path.{◌≡◌, refl, sym, ◌∙◌, ap}
 use mathlib.Core.Logic.{⊎_elim}
-use mathlib.Core.Bool.{Bool, true, ◌&&◌, and_assoc, and-true}
+use mathlib.Core.Bool.{Bool, true, false, ◌&&◌, and_assoc, and-true}
 use mathlib.Core.List.{List, [], ◌∷◌, ◌++◌}
 use lib.ListN.{length, take}
 use lib.Seq.{take-nil, slice, slice-cons, slice_empty}
 use lib.Dec.{leb, lit<, lit≤}
 use native.Mathlib.Omega.{arith}
 use native.Mathlib.Nat.{div-one, mod-lt}
-use borrow.Author.Tests.{le-leb}
+use native.Mathlib.Decide.{ℕ_discrete}
+use borrow.Author.Tests.{le-leb, lt-leb}
 use Rattle.lxt_format.specs.Basics.{range, all, joined}
 use Rattle.lxt_format.specs.BasicsLaws.{and_both, both_and}
 use Rattle.lxt_format.specs.Bytes.{byte_at}
 use Rattle.lxt_format.specs.Changes.{packed_size, digits, unpack, codes_at, codes_allowed}
 use Rattle.lxt_changes.specs.Windows.{good_byte, all_good, Known, Answered, Data}
 use Rattle.lxt_changes.specs.declared.symbols.Window.{Window}
-use Rattle.lxt_changes.specs.declared.symbols.Checked.{Checked}
+use Rattle.std.specs.Prelude.{Some, None}
+use Rattle.std.proofs.lemmas.Option.{none-some, same_Some}
 
 -- ---- 4 bits: two codes a byte
 
@@ -116,8 +118,8 @@ codes_small s b width o p h = all_take (λ code. leb code 8) width _ (small_code
 -- ---- the ways out of `codes_allowed`
 
 module _ (s : List ℕ) (b width o : ℕ) (w : Window) (k : Known s w) (d : Data s b width o) where
-  pub small : (b ≡ 4 → ⊥) → Answered s (codes_allowed s b width o) (record { allowed = true; window = w })
-  small n = record { answer = sym codes; known = k }
+  pub small : (b ≡ 4 → ⊥) → Answered s (codes_allowed s b width o) (Some w)
+  small n = record { answer = sym codes; known = λ v e. rw (same_Some v w (sym e)) k }
     where
       codes : codes_allowed s b width o ≡ true
       codes =
@@ -133,9 +135,30 @@ module _ (s : List ℕ) (b width o : ℕ) (w : Window) (k : Known s w) (d : Data
     unfolding packed_size
     last_within = let i = inside_4 in (omega arith, λ n. omega arith)
 
-    module _ (last : ℕ) (el : last ≡ o + width / 2) (r : Checked) (a : Answered s (all_good s o last) r) where
-      pub even : width % 2 ≡ 0 → Answered s (codes_allowed s b width o) r
-      even e = record { answer = a.answer ∙ rw (el, four) (sym (codes_even s width o inside_4 e)); known = a.known }
+    module _ (last : ℕ) (el : last ≡ o + width / 2) where
+      pub wrong : Answered s (all_good s o last) None → Answered s (codes_allowed s b width o) None
+      wrong a =
+          record {
+            answer = elim (ℕ_discrete (width % 2) 0) [
+              | yes e ↦ a.answer ∙ rw (el, four) (sym (codes_even s width o inside_4 e))
+              | no n ↦ (let f : all_good s o (o + width / 2) ≡ false = rw (← el) (sym a.answer) in rw four (sym (codes_odd s width o inside_4 n ∙ rw f)))
+            ];
+            known = λ w e. absurd (none-some w e);
+          }
 
-      pub odd : (width % 2 ≡ 0 → ⊥) → Answered s (codes_allowed s b width o) (record { allowed = r.allowed && leb (byte_at s last / 16 % 16) 8; window = r.window })
-      odd n = record { answer = rw (a.answer, el, four) (sym (codes_odd s width o inside_4 n)); known = a.known }
+      module _ (x : Window) (a : Answered s (all_good s o last) (Some x)) where
+        good : all_good s o (o + width / 2) ≡ true
+        good = rw (← el) (sym a.answer)
+
+        known' : (v : Window) → Some x ≡ Some v → Known s v
+        known' v e = rw (same_Some v x (sym e)) (a.known x refl)
+
+        pub even : width % 2 ≡ 0 → Answered s (codes_allowed s b width o) (Some x)
+        even e = record { answer = a.answer ∙ rw (el, four) (sym (codes_even s width o inside_4 e)); known = known' }
+
+        module _ (n : width % 2 ≡ 0 → ⊥) where
+          pub odd : byte_at s last / 16 % 16 ≤ 8 → Answered s (codes_allowed s b width o) (Some x)
+          odd h = record { answer = rw four (sym (codes_odd s width o inside_4 n ∙ rw (good, ← el) (le-leb _ _ h))); known = known' }
+
+          pub odd_wrong : 8 < byte_at s last / 16 % 16 → Answered s (codes_allowed s b width o) None
+          odd_wrong h = record { answer = rw four (sym (codes_odd s width o inside_4 n ∙ rw (good, ← el) (lt-leb _ _ h))); known = λ v e. absurd (none-some v e) }

@@ -24,9 +24,8 @@ use Rattle.lxt_changes.specs.Faults.{LastZero, start_fault, body_fault, symbol_f
 use Rattle.lxt_changes.proofs.CodeLaws.{codes_none}
 use Rattle.lxt_changes.proofs.PaddingLaws.{padding_none}
 use Rattle.lxt_changes.specs.declared.symbols.Window.{Window}
-use Rattle.lxt_changes.specs.declared.symbols.Checked.{Checked}
 use Rattle.lxt_changes.specs.declared.fault.Sound.{Sound}
-use Rattle.std.specs.Prelude.{Result, Ok, Err}
+use Rattle.std.specs.Prelude.{Result, Ok, Err, Option, Some, None, is_some}
 use Rattle.lxt_format.specs.Answers.{refusal_number}
 use Rattle.lxt_format.specs.declared.refusal.Refusal.{Refusal}
 use Rattle.lxt_format.specs.declared.refusal.Refusal.TheVariants.{ChangeOutside, ChangeContent}
@@ -123,21 +122,22 @@ module _ (s : List ℕ) (T width o : ℕ) (b size at : ℕ) (eb : b ≡ symbol_s
         let p : padding_clean s (symbol_size (byte_at s o % 16)) width (data_at s o) ≡ true = rw e (padding_none s width (data_at s o)) in
         record { told = simp (fits, c, p); known = k }
 
-    module _ (c : Checked) (a : Answered s (codes_allowed s b width at) c) where
-      allowed_is : c.allowed ≡ codes_allowed s (symbol_size (command_of s o)) width (data_at s o)
+    module _ (r : Option Window) (a : Answered s (codes_allowed s b width at) r) where
+      allowed_is : is_some r ≡ codes_allowed s (symbol_size (command_of s o)) width (data_at s o)
       unfolding command_of
       allowed_is = a.answer ∙ rw (eb, ea)
 
-      pub symbols_wrong : c.allowed ≡ false → Found s (symbol_fault s T width o) (symbol_clean s width o) (Err ChangeContent)
+      pub symbols_wrong : r ≡ None → Found s (symbol_fault s T width o) (symbol_clean s width o) (Err ChangeContent)
       unfolding symbol_fault
-      symbols_wrong e = record { told = simp (fits, ← allowed_is, e); known = tt }
+      symbols_wrong e = let f : codes_allowed s (symbol_size (command_of s o)) width (data_at s o) ≡ false = sym (rw e at allowed_is) in record { told = simp (fits, f); known = tt }
 
-      pub symbols_right : c.allowed ≡ true → (z : Bool) → z ≡ padding_clean s b width at
-          → Found s (symbol_fault s T width o) (symbol_clean s width o) (Ok (record { clean = z; window = c.window }))
+      pub symbols_right : (w : Window) → r ≡ Some w → (z : Bool) → z ≡ padding_clean s b width at
+          → Found s (symbol_fault s T width o) (symbol_clean s width o) (Ok (record { clean = z; window = w }))
       unfolding symbol_fault symbol_clean command_of
-      symbols_right e z ez =
+      symbols_right w e z ez =
+          let f : codes_allowed s (symbol_size (byte_at s o % 16)) width (data_at s o) ≡ true = sym (rw e at allowed_is) in
           let p : z ≡ padding_clean s (symbol_size (byte_at s o % 16)) width (data_at s o) = ez ∙ rw (eb, ea) in
-          record { told = rw p (simp (fits, ← allowed_is, e)); known = a.known }
+          record { told = rw p (simp (fits, f)); known = a.known w e }
 
 -- ---- reals and texts
 

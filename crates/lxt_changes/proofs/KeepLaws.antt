@@ -1,6 +1,6 @@
 -- A law for each way out of the functions that tell whether a change keeps the rules.
 use Prim.Native.Nat.{ℕ, suc, ◌+◌, ◌-◌, ◌*◌, ◌/◌, ◌%◌, ◌≤◌, ◌<◌}
-use mathlib.Core.Path.{◌≡◌, refl, sym, ◌∙◌}
+use mathlib.Core.Path.{◌≡◌, refl, sym, ◌∙◌, ap}
 use mathlib.Core.Logic.{◌⊎◌, inl, inr}
 use mathlib.Core.Bool.{Bool, true, false, ◌&&◌, ◌||◌, and_assoc, and-true, false≢true}
 use mathlib.Core.List.{List}
@@ -20,8 +20,9 @@ use Rattle.lxt_format.specs.declared.Kind.TheVariants.{Bits, Integer, Real, Text
 use Rattle.lxt_format.specs.Basics.{all}
 use Rattle.lxt_changes.specs.Windows.{good_byte, all_good, Data}
 use Rattle.lxt_changes.specs.Faults.{symbolic}
-use Rattle.lxt_changes.specs.Keeping.{head_kept, symbols_kept, SymbolsKept, Keeps, Wide}
+use Rattle.lxt_changes.specs.Keeping.{head_kept, symbols_kept, SymbolsKept, Keeps, Wide, kept_with}
 use Rattle.lxt_changes.specs.declared.keep.Kept.{Kept}
+use Rattle.std.specs.Prelude.{Option, Some, None}
 use Rattle.lxt_changes.proofs.CodeLaws.{codes_none, codes_small, codes_even, codes_odd}
 use Rattle.lxt_changes.proofs.PaddingLaws.{padding_none}
 use Rattle.lxt_changes.proofs.EndLaws.{before_bound}
@@ -84,13 +85,9 @@ module _ (s : List ℕ) (T width o : ℕ) where
     pub fit_is : leb to T ≡ leb (data_at s o + packed_size (symbol_size (command_of s o)) width) T
     fit_is = rw et
 
-    pub symbols_far : T < to → SymbolsKept s T width o (record { kept = false; clean = false; end = 0 })
+    pub symbols_far : T < to → SymbolsKept s T width o None
     unfolding symbols_kept
-    symbols_far h = record {
-      kept = rw (← et, lt-leb to T h);
-      clean = λ q. absurd (false≢true q);
-      end = λ q. absurd (false≢true q);
-    }
+    symbols_far h = let f : leb (data_at s o + packed_size (symbol_size (command_of s o)) width) T ≡ false = rw (← et) (lt-leb to T h) in rw f
 
     module _ (h : to ≤ T) (b at : ℕ) (eb : b ≡ symbol_size (byte_at s o % 16)) (ea : at ≡ data_at s o) where
       inside : data_at s o + packed_size (symbol_size (command_of s o)) width ≤ T
@@ -103,10 +100,20 @@ module _ (s : List ℕ) (T width o : ℕ) where
       pub data_here : 1 ≤ width → width ≤ widest_facility → T ≤ length s → Data s b width at
       data_here least most l = record { symbols = rw eb (symbol_cases (byte_at s o % 16)); least = least; most = most; inside = data_inside l }
 
-      pub symbols_told : (k p : Bool) → k ≡ codes_allowed s b width at → p ≡ padding_clean s b width at
-          → SymbolsKept s T width o (record { kept = k; clean = p; end = to })
-      unfolding symbols_kept command_of
-      symbols_told k p ek ep = record { kept = ek ∙ rw (← et, le-leb to T h, eb, ea); clean = λ _. ep ∙ rw (eb, ea); end = λ _. et }
+      module _ (k : Bool) (ek : k ≡ codes_allowed s b width at) where
+        told : k ≡ symbols_kept s T width o
+        unfolding symbols_kept command_of
+        told = ek ∙ rw (← et, le-leb to T h, eb, ea)
+
+        pub symbols_wrong : k ≡ false → SymbolsKept s T width o None
+        symbols_wrong q = let f : symbols_kept s T width o ≡ false = sym told ∙ q in rw f
+
+        pub symbols_told : k ≡ true → (p : Bool) → p ≡ padding_clean s b width at → SymbolsKept s T width o (Some (record { clean = p; end = to }))
+        unfolding command_of
+        symbols_told q p ep =
+            let f : symbols_kept s T width o ≡ true = sym told ∙ q in
+            let e : p ≡ padding_clean s (symbol_size (byte_at s o % 16)) width (data_at s o) = ep ∙ rw (eb, ea) in
+            rw (f, e, et)
 
 -- ---- codes
 
@@ -173,24 +180,24 @@ module _ (s : List ℕ) (C T : ℕ) (kind : Kind) (width o : ℕ) where
       (λ z. z)))
 
   -- a rule of its head is broken
-  pub head_breaks : (z : Bool) → z ≡ head_kept s C T kind o → z ≡ false → Keeps s C T kind width o (record { kept = false; clean = false; end = 0 })
+  pub head_fails : (z : Bool) → z ≡ head_kept s C T kind o → z ≡ false → false ≡ eqb (fault_at s (signal C T kind width) o) 0
   unfolding head_kept
-  head_breaks z ez h = record {
-    kept = sym
-        (on_test (eqb (fault_at s (signal C T kind width) o) 0)
-        (λ q.
-        let w = sound s (signal C T kind width) o (eqb-true _ _ q) in
-        let data-end : data_at s o ≤ change_end s (signal C T kind width) o = (unfold change_end in omega arith) in
-        let e = w.ends in
-        absurd
-        (false≢true
-        (sym h ∙ ez ∙ both_and _ _ (lt-ltb o T w.before)
-        (both_and _ _ (le-leb (data_at s o) T (omega arith))
-        (both_and _ _ (le-leb C o w.starts) (both_and _ _ (both_and _ _ (lt-ltb (byte_at s o) 0x40 w.top) w.command) w.previous))))))
-        (λ q. q));
-    clean = λ q. absurd (false≢true q);
-    end = λ q. absurd (false≢true q);
-  }
+  head_fails z ez h =
+      sym
+      (on_test (eqb (fault_at s (signal C T kind width) o) 0)
+      (λ q.
+      let w = sound s (signal C T kind width) o (eqb-true _ _ q) in
+      let data-end : data_at s o ≤ change_end s (signal C T kind width) o = (unfold change_end in omega arith) in
+      let e = w.ends in
+      absurd
+      (false≢true
+      (sym h ∙ ez ∙ both_and _ _ (lt-ltb o T w.before)
+      (both_and _ _ (le-leb (data_at s o) T (omega arith))
+      (both_and _ _ (le-leb C o w.starts) (both_and _ _ (both_and _ _ (lt-ltb (byte_at s o) 0x40 w.top) w.command) w.previous))))))
+      (λ q. q))
+
+  pub head_breaks : (z : Bool) → z ≡ head_kept s C T kind o → z ≡ false → Keeps s C T kind width o None
+  head_breaks z ez h = let f : eqb (fault_at s (signal C T kind width) o) 0 ≡ false = sym (head_fails z ez h) in rw f
 
   module _ (z : Bool) (ez : z ≡ head_kept s C T kind o) (hz : z ≡ true) where
     head : head_kept s C T kind o ≡ true
@@ -199,26 +206,36 @@ module _ (s : List ℕ) (C T : ℕ) (kind : Kind) (width o : ℕ) where
     pub starts : o < T
     starts = head_start s C T kind o head
 
-    pub symbols_keep : (kind ≡ Bits) ⊎ (kind ≡ Integer) → (r : Kept) → SymbolsKept s T width o r → Keeps s C T kind width o r
-    unfolding symbols_kept change_end data_size data_allowed clean_at
-    symbols_keep (inl e) r w = record { kept = keeps_by r.kept (w.kept ∙ rw e) head; clean = λ q. w.clean q ∙ rw e; end = λ q. w.end q ∙ rw e }
-    symbols_keep (inr e) r w = record { kept = keeps_by r.kept (w.kept ∙ rw e) head; clean = λ q. w.clean q ∙ rw e; end = λ q. w.end q ∙ rw e }
+    pub symbols_decide : (kind ≡ Bits) ⊎ (kind ≡ Integer) → (k : Bool) → k ≡ symbols_kept s T width o → k ≡ eqb (fault_at s (signal C T kind width) o) 0
+    unfolding symbols_kept change_end data_size data_allowed
+    symbols_decide (inl e) k ek = keeps_by k (ek ∙ rw e) head
+    symbols_decide (inr e) k ek = keeps_by k (ek ∙ rw e) head
+
+    pub symbols_keep : (kind ≡ Bits) ⊎ (kind ≡ Integer) → (r : Option Kept) → SymbolsKept s T width o r → Keeps s C T kind width o r
+    unfolding change_end data_size clean_at
+    symbols_keep (inl e) r w = w ∙ (let d = symbols_decide (inl e) (symbols_kept s T width o) refl in rw (d, e))
+    symbols_keep (inr e) r w = w ∙ (let d = symbols_decide (inr e) (symbols_kept s T width o) refl in rw (d, e))
 
     module _ (at : ℕ) (ea : at ≡ data_at s o) where
-      pub real_keeps : kind ≡ Real → Keeps s C T kind width o (record { kept = leb (at + 8) T; clean = true; end = at + 8 })
-      unfolding change_end data_size data_allowed clean_at
-      real_keeps e = record { kept = keeps_by (leb (at + 8) T) (rw (e, ea) (sym (and-true _))) head; clean = λ _. rw e; end = λ _. rw (e, ea) }
+      pub real_decide : kind ≡ Real → leb (at + 8) T ≡ eqb (fault_at s (signal C T kind width) o) 0
+      unfolding change_end data_size data_allowed
+      real_decide e = keeps_by (leb (at + 8) T) (rw (e, ea) (sym (and-true _))) head
 
-      pub text_keeps : kind ≡ Text → T ≤ length s → (p : ℕ) → p ≡ at + to_zero (slice at T s)
-          → Keeps s C T kind width o (record { kept = ltb p T; clean = true; end = p + 1 })
-      unfolding change_end data_size data_allowed clean_at
-      text_keeps e l p ep =
-          let up : p + 1 ≡ at + (to_zero (slice at T s) + 1) = omega arith in
-          record {
-            kept = keeps_by (ltb p T) (before_bound s T l at T p (omega arith) ep ∙ rw (e, ea) (sym (and-true _))) head;
-            clean = λ _. rw e;
-            end = λ _. up ∙ rw (e, ea);
-          }
+      pub real_keeps : kind ≡ Real → (r : Option Kept) → r ≡ kept_with (leb (at + 8) T) true (at + 8) → Keeps s C T kind width o r
+      unfolding change_end data_size clean_at
+      real_keeps e r w = w ∙ (let d = real_decide e in rw (d, ea, e))
+
+      module _ (e : kind ≡ Text) (l : T ≤ length s) (p : ℕ) (ep : p ≡ at + to_zero (slice at T s)) where
+        pub text_decide : ltb p T ≡ eqb (fault_at s (signal C T kind width) o) 0
+        unfolding change_end data_size data_allowed
+        text_decide = keeps_by (ltb p T) (before_bound s T l at T p (omega arith) ep ∙ rw (e, ea) (sym (and-true _))) head
+
+        pub text_keeps : (r : Option Kept) → r ≡ kept_with (leb (p + 1) T) true (p + 1) → Keeps s C T kind width o r
+        unfolding change_end data_size clean_at
+        text_keeps r w =
+            let up : p + 1 ≡ at + (to_zero (slice at T s) + 1) = omega arith in
+            let one : leb (p + 1) T ≡ ltb p T = (let q : p + 1 ≡ suc p = omega arith in rw q) in
+            w ∙ (let d = one ∙ text_decide in rw (d, up, ea, e))
 
 -- ---- integers
 
@@ -241,9 +258,9 @@ integer_padding s b at (inr e) =
     rw (e, u, mod-one (byte_at s (at + (1 * 32 + 7) / 8 - 1)))
 
 pub integer_keeps : (s : List ℕ) (C T : ℕ) (kind : Kind) (width o : ℕ) (z : Bool) → z ≡ head_kept s C T kind o → z ≡ true → kind ≡ Integer → width ≡ 32
-    → (to : ℕ) → to ≡ data_at s o + packed_size (symbol_size (command_of s o)) 32 → Keeps s C T kind width o (record { kept = leb to T; clean = true; end = to })
+    → (to : ℕ) → to ≡ data_at s o + packed_size (symbol_size (command_of s o)) 32 → (r : Option Kept) → r ≡ kept_with (leb to T) true to → Keeps s C T kind width o r
 unfolding symbols_kept head_kept
-integer_keeps s C T kind width o z ez hz e ew to et =
+integer_keeps s C T kind width o z ez hz e ew to et r er =
     let head = sym ez ∙ hz in
     let a = and_both (ltb o T) _ head in
     let b = and_both (leb (data_at s o) T) _ a.1 in
@@ -252,12 +269,8 @@ integer_keeps s C T kind width o z ez hz e ew to et =
     let command = (and_both (ltb (byte_at s o) 0x40) (command_allowed kind (command_of s o)) d.0).1 in
     let size = integer_size (command_of s o) (rw e at command) in
     let codes = integer_codes s (symbol_size (command_of s o)) (data_at s o) size in
-    symbols_keep s C T kind width o z ez hz (inr e) _
-    (record {
-      kept = rw (ew, codes, et) (sym (and-true _));
-      clean = λ _. rw ew (sym (integer_padding s (symbol_size (command_of s o)) (data_at s o) size));
-      end = λ _. et ∙ rw ew;
-    })
+    let padding = integer_padding s (symbol_size (command_of s o)) (data_at s o) size in
+    symbols_keep s C T kind width o z ez hz (inr e) r (er ∙ rw (ew, codes, padding, et) (ap (λ b. kept_with b true (data_at s o + packed_size (symbol_size (command_of s o)) 32)) (sym (and-true _))))
 
 -- the width of symbols
 pub symbols_wide : (s : List ℕ) (T : ℕ) (kind : Kind) (width : ℕ) → Wide s T kind width → (kind ≡ Bits) ⊎ (kind ≡ Integer) → 1 ≤ width

@@ -16,6 +16,8 @@ use Rattle.lxt_format.specs.Basics.{range, all}
 use Rattle.lxt_format.specs.BasicsLaws.{range_all, all_range, on_test}
 use Rattle.lxt_format.specs.Bytes.{byte_at}
 use Rattle.lxt_format.specs.Changes.{command_allowed, symbol_size, packed_size}
+use Rattle.std.specs.Prelude.{Some, None}
+use Rattle.std.proofs.lemmas.Option.{none-some, same_Some}
 use Rattle.lxt_changes.specs.Windows.{good_byte, all_good, Good, Scanned, ScannedUp, Known, Answered}
 use Rattle.lxt_changes.specs.declared.symbols.Window.{Window}
 use Rattle.lxt_format.specs.declared.Kind.{Kind}
@@ -145,29 +147,27 @@ module _ (s : List ℕ) (from to : ℕ) where
       on_test (all (λ j. good_byte (byte_at s j)) (range from (to - from)))
       (λ e. absurd (false≢true (sym h ∙ all_range (λ j. good_byte (byte_at s j)) from (to - from) e i a (omega arith)))) (λ e. e)
 
-  pub anew : from ≤ to → to ≤ length s → (low : ℕ) → Scanned s from to low
-      → Answered s (all_good s from to) (record { allowed = leb low from; window = record { from = low; to = to } })
-  anew h k low w =
-      record {
-        answer = ⊎_elim (λ l. answered l) (λ l. refused l) (le_or_lt low from);
-        known = record { good = w.good; within = k };
-      }
-    where
-      answered : low ≤ from → leb low from ≡ all_good s from to
-      answered l = le-leb low from l ∙ sym (good_all (λ i a b. w.good i (omega arith) b))
+  -- what is answered then
+  allow : (w : Window) → all_good s from to ≡ true → Known s w → Answered s (all_good s from to) (Some w)
+  allow w h k = record { answer = sym h; known = λ v e. rw (same_Some v w (sym e)) k }
 
-      refused : from < low → leb low from ≡ all_good s from to
-      refused l = lt-leb low from l ∙ sym (bad_one (low - 1) (omega arith) (let g = w.high in omega arith) (w.stop l))
+  refuse : all_good s from to ≡ false → Answered s (all_good s from to) None
+  refuse h = record { answer = sym h; known = λ v e. absurd (none-some v e) }
+
+  module _ (low : ℕ) (w : Scanned s from to low) where
+    pub anew_bad : from < low → Answered s (all_good s from to) None
+    anew_bad l = refuse (bad_one (low - 1) (omega arith) (let g = w.high in omega arith) (w.stop l))
+
+    pub anew : low ≤ from → to ≤ length s → Answered s (all_good s from to) (Some (record { from = low; to = to }))
+    anew l k = allow _ (good_all (λ i a b. w.good i (omega arith) b)) (record { good = w.good; within = k })
 
   module _ (w : Window) (k : Known s w) (meets : w.from ≤ to) (touches : from ≤ w.to) (low : ℕ) (a : Scanned s from w.from low) where
-    pub low_bad : from < low → Answered s (all_good s from to) (record { allowed = false; window = w })
-    low_bad h =
-        record { answer = sym (bad_one (low - 1) (omega arith) (let g = a.high in omega arith) (a.stop h)); known = k }
+    pub low_bad : from < low → Answered s (all_good s from to) None
+    low_bad h = refuse (bad_one (low - 1) (omega arith) (let g = a.high in omega arith) (a.stop h))
 
     module _ (fine : low ≤ from) (high : ℕ) (b : Scanned s w.to to high) where
-      pub high_bad : w.to < high → Answered s (all_good s from to) (record { allowed = false; window = w })
-      high_bad h =
-          record { answer = sym (bad_one (high - 1) (omega arith) (let g = b.high in omega arith) (b.stop h)); known = k }
+      pub high_bad : w.to < high → Answered s (all_good s from to) None
+      high_bad h = refuse (bad_one (high - 1) (omega arith) (let g = b.high in omega arith) (b.stop h))
 
       module _ (fine' : high ≤ w.to) where
         -- the bytes from low up to the higher end
@@ -181,19 +181,18 @@ module _ (s : List ℕ) (from to : ℕ) where
         all_good_lem : all_good s from to ≡ true
         all_good_lem = good_all (λ i c d. joined_good i (omega arith) (inr d))
 
-        pub grown : to ≤ length s → (m : ℕ) → m ≡ max to w.to → Answered s (all_good s from to) (record { allowed = true; window = record { from = low; to = m } })
+        pub grown : to ≤ length s → (m : ℕ) → m ≡ max to w.to → Answered s (all_good s from to) (Some (record { from = low; to = m }))
         grown h m e =
             elim (dec_le to w.to) [
               | yes l ↦ (let q : m ≡ w.to = (let x : max to w.to ≡ w.to = max-eq_right l in omega arith) in
-                  rw q (record { answer = sym all_good_lem; known = record { good = λ i c d. joined_good i c (inl d); within = k.within } }))
+                  rw q (allow _ all_good_lem (record { good = λ i c d. joined_good i c (inl d); within = k.within })))
               | no l ↦ (let r : w.to ≤ to = omega arith in let q : m ≡ to = (let x : max to w.to ≡ to = max-eq_left r in omega arith) in
-                  rw q (record { answer = sym all_good_lem; known = record { good = λ i c d. joined_good i c (inr d); within = h } }))
+                  rw q (allow _ all_good_lem (record { good = λ i c d. joined_good i c (inr d); within = h })))
             ]
 
   module _ (w : Window) (k : Known s w) (low : ℕ) (a : Scanned s from to low) where
-    pub below_bad : from < low → Answered s (all_good s from to) (record { allowed = false; window = w })
-    below_bad h =
-        record { answer = sym (bad_one (low - 1) (omega arith) (let g = a.high in omega arith) (a.stop h)); known = k }
+    pub below_bad : from < low → Answered s (all_good s from to) None
+    below_bad h = refuse (bad_one (low - 1) (omega arith) (let g = a.high in omega arith) (a.stop h))
 
     module _ (fine : low ≤ from) (some : w.from < w.to) (high : ℕ) (b : ScannedUp s to w.from high) where
       below_good : all_good s from to ≡ true
@@ -203,16 +202,8 @@ module _ (s : List ℕ) (from to : ℕ) where
       gap_good : Good s low high
       gap_good i c d = ⊎_elim (λ l. b.good i l d) (λ l. a.good i c l) (le_or_lt to i)
 
-      pub below_apart : Answered s (all_good s from to) (record { allowed = true; window = record { from = low; to = high } })
-      below_apart = record { answer = sym below_good; known = record { good = gap_good; within = let g = b.high in let h = k.within in omega arith } }
+      pub below_apart : Answered s (all_good s from to) (Some (record { from = low; to = high }))
+      below_apart = allow _ below_good (record { good = gap_good; within = let g = b.high in let h = k.within in omega arith })
 
-      pub below_joined : w.from ≤ high → Answered s (all_good s from to) (record { allowed = true; window = record { from = low; to = w.to } })
-      below_joined h =
-          record {
-            answer = sym below_good;
-            known =
-                record {
-                  good = λ i c d. ⊎_elim (λ l. k.good i l d) (λ l. gap_good i c (omega arith)) (le_or_lt w.from i);
-                  within = k.within;
-                };
-          }
+      pub below_joined : w.from ≤ high → Answered s (all_good s from to) (Some (record { from = low; to = w.to }))
+      below_joined h = allow _ below_good (record { good = λ i c d. ⊎_elim (λ l. k.good i l d) (λ l. gap_good i c (omega arith)) (le_or_lt w.from i); within = k.within })

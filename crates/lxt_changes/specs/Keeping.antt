@@ -1,5 +1,5 @@
 -- A change that keeps the rules of 15 and 16, rule by rule, without the number of the one that it breaks.
-use Rattle.std.specs.Prelude.{ℕ, ◌+◌, ◌≤◌, ◌≡◌, Bool, true, ◌&&◌, List, length, ltb, leb, eqb}
+use Rattle.std.specs.Prelude.{ℕ, ◌+◌, ◌≤◌, ◌≡◌, Bool, true, ◌&&◌, List, length, ltb, leb, eqb, if◌then◌else◌, Option, Some, None}
 use Rattle.lxt_format.specs.Limits.{widest_facility}
 use Rattle.lxt_format.specs.Bytes.{byte_at}
 use Rattle.lxt_format.specs.Changes.{signal, command_of, data_at, command_allowed, symbol_size, packed_size, codes_allowed, padding_clean, previous_allowed, change_end, fault_at, clean_at}
@@ -17,17 +17,20 @@ unfoldable pub symbols_kept : List ℕ → ℕ → ℕ → ℕ → Bool
 symbols_kept s T width o =
     leb (data_at s o + packed_size (symbol_size (command_of s o)) width) T && codes_allowed s (symbol_size (command_of s o)) width (data_at s o)
 
+-- whether the padding of a change was clean and where it ends, if it keeps the rules
+abbrev pub kept_with : Bool → Bool → ℕ → Option Kept
+kept_with kept clean end = if kept then Some (record { clean = clean; end = end }) else None
+
 -- what was found of a change of symbols
-pub record SymbolsKept (s : List ℕ) (T width o : ℕ) (r : Kept) : Type 0 where
-  pub kept : r.kept ≡ symbols_kept s T width o
-  pub clean : r.kept ≡ true → r.clean ≡ padding_clean s (symbol_size (command_of s o)) width (data_at s o)
-  pub end : r.kept ≡ true → r.end ≡ data_at s o + packed_size (symbol_size (command_of s o)) width
+abbrev pub SymbolsKept : List ℕ → ℕ → ℕ → ℕ → Option Kept → Type 0
+SymbolsKept s T width o r =
+    r ≡ kept_with (symbols_kept s T width o) (padding_clean s (symbol_size (command_of s o)) width (data_at s o))
+    (data_at s o + packed_size (symbol_size (command_of s o)) width)
 
 -- and of a change of any kind
-pub record Keeps (s : List ℕ) (C T : ℕ) (kind : Kind) (width o : ℕ) (r : Kept) : Type 0 where
-  pub kept : r.kept ≡ eqb (fault_at s (signal C T kind width) o) 0
-  pub clean : r.kept ≡ true → r.clean ≡ clean_at s (signal C T kind width) o
-  pub end : r.kept ≡ true → r.end ≡ change_end s (signal C T kind width) o
+abbrev pub Keeps : List ℕ → ℕ → ℕ → Kind → ℕ → ℕ → Option Kept → Type 0
+Keeps s C T kind width o r =
+    r ≡ kept_with (eqb (fault_at s (signal C T kind width) o) 0) (clean_at s (signal C T kind width) o) (change_end s (signal C T kind width) o)
 
 -- T lies in the file, and the width is allowed
 pub record Wide (s : List ℕ) (T : ℕ) (kind : Kind) (width : ℕ) : Type 0 where

@@ -1,11 +1,10 @@
 -- Bytes that hold only codes of symbols, 4 bits each.
-use Rattle.std.specs.Prelude.{ℕ, ◌+◌, ◌-◌, ◌≤◌, ◌<◌, ◌/◌, ◌%◌, ◌≡◌, ◌⊎◌, Bool, true, false, ◌&&◌, List, length, leb}
+use Rattle.std.specs.Prelude.{ℕ, ◌+◌, ◌-◌, ◌≤◌, ◌<◌, ◌/◌, ◌%◌, ◌≡◌, ◌⊎◌, Bool, true, false, ◌&&◌, List, length, leb, Option, Some, is_some}
 use Rattle.lxt_format.specs.Limits.{widest_facility}
 use Rattle.lxt_format.specs.Basics.{range, all}
 use Rattle.lxt_format.specs.Bytes.{byte_at}
 use Rattle.lxt_format.specs.Changes.{packed_size}
 use Rattle.lxt_changes.specs.declared.symbols.Window.{Window}
-use Rattle.lxt_changes.specs.declared.symbols.Checked.{Checked}
 
 -- both codes of a byte are at most 8
 unfoldable pub good_byte : ℕ → Bool
@@ -37,10 +36,10 @@ pub record Known (s : List ℕ) (w : Window) : Type 0 where
   pub good : Good s w.from w.to
   pub within : w.to ≤ length s
 
--- an answer on data, and what is known after it
-pub record Answered (s : List ℕ) (allowed : Bool) (r : Checked) : Type 0 where
-  pub answer : r.allowed ≡ allowed
-  pub known : Known s r.window
+-- whether data is allowed: then a window that is known after that was found, else none
+pub record Answered (s : List ℕ) (allowed : Bool) (r : Option Window) : Type 0 where
+  pub answer : is_some r ≡ allowed
+  pub known : (w : Window) → r ≡ Some w → Known s w
 
 -- the data of `width` symbols of b bits lies in the file
 pub record Data (s : List ℕ) (b width at : ℕ) : Type 0 where

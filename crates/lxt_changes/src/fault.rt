@@ -64,13 +64,12 @@ fn symbol_fault(file: &[u8], end: usize, width: u32, o: usize, w: Window) -> Res
             window: w,
         });
     }
-    let checked = symbols::codes_allowed(file, b, width, at, w);
-    if !checked.allowed {
+    let Some(window) = symbols::codes_allowed(file, b, width, at, w) else {
         return Err(Refusal::ChangeContent);
-    }
+    };
     Ok(Sound {
         clean: padding::padding_clean(file, b, width, at),
-        window: checked.window,
+        window,
     })
 }
 

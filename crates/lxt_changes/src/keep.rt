@@ -1,19 +1,18 @@
 // Whether a change keeps the rules of 15 and 16, without the number of the one that it breaks. `fault` has
 // the numbers, in their order; here nothing is carried from change to change.
-ghost use Rattle.std.specs.Prelude.{◌≡◌, ◌+◌, ◌≤◌, ◌<◌, leb, length};
+ghost use Rattle.std.specs.Prelude.{◌≡◌, true, ◌+◌, ◌≤◌, ◌<◌, leb, length};
 ghost use Rattle.lxt_format.specs.Limits.{widest_facility};
 ghost use Rattle.lxt_format.specs.Changes.{command_of, data_at, symbol_size, packed_size, codes_allowed};
 ghost use Rattle.lxt_changes.specs.Windows.{all_good, Data};
-ghost use Rattle.lxt_changes.specs.Keeping.{head_kept, Wide, SymbolsKept, Keeps};
+ghost use Rattle.lxt_changes.specs.Keeping.{head_kept, kept_with, Wide, SymbolsKept, Keeps};
 
 use crate::{delta, padding, symbols};
 use lxt_format::Kind;
 use lxt_sections::zeros::zero_from;
 
-// Whether a change keeps the rules, and if so whether its padding is 0 and where it ends.
+// A change that keeps the rules: whether its padding is 0, and where it ends.
 #[derive(Clone, Copy)]
 pub struct Kept {
-    pub kept: bool,
     pub clean: bool,
     pub end: usize,
 }
@@ -79,81 +78,69 @@ fn codes_good(file: &[u8], b: u32, width: u32, at: usize) -> bool
 }
 
 // The data of a change of symbols ends at or below `end`, and its codes are allowed.
-fn symbols_keep(file: &[u8], end: usize, width: u32, o: usize) -> Kept
+fn symbols_keep(file: &[u8], end: usize, width: u32, o: usize) -> Option<Kept>
     requires { ((1 ≤ width) × (width ≤ widest_facility)) × ((o < length file.now) × (end ≤ length file.now)) }
     ensures { SymbolsKept file.now end width o result }
 {
     let to = symbols_end(file, width, o);
     if end < to {
-        return Kept {
-            kept: false,
-            clean: false,
-            end: 0,
-        };
+        return None;
     }
     let b = symbols::size_of(file[o]);
     let at = delta::data_at(file, o);
-    Kept {
-        kept: codes_good(file, b, width, at),
+    if !codes_good(file, b, width, at) {
+        return None;
+    }
+    Some(Kept {
         clean: padding::padding_clean(file, b, width, at),
         end: to,
-    }
+    })
 }
 
 // The change at `o` of bits of that width keeps all rules, with `end` for T.
-pub fn bits_keep(file: &[u8], from: usize, end: usize, width: u32, o: usize) -> Kept
+pub fn bits_keep(file: &[u8], from: usize, end: usize, width: u32, o: usize) -> Option<Kept>
     requires { Wide file.now end Kind.Bits width }
     ensures { Keeps file.now from end Kind.Bits width o result }
 {
     if !head_keeps(file, from, end, Kind::Bits, o) {
-        return Kept {
-            kept: false,
-            clean: false,
-            end: 0,
-        };
+        return None;
     }
     symbols_keep(file, end, width, o)
 }
 
+// Data without padding that ends at `to`, if that is at or below `end`.
+fn unpadded(to: usize, end: usize) -> Option<Kept>
+    ensures { result ≡ kept_with (leb to end) true to }
+{
+    if end < to {
+        return None;
+    }
+    Some(Kept {
+        clean: true,
+        end: to,
+    })
+}
+
 // The same of a facility of another kind. An integer has 32 symbols of 1 bit or none, so it has no padding.
-pub fn others_keep(file: &[u8], from: usize, end: usize, kind: Kind, width: u32, o: usize) -> Kept
+pub fn others_keep(
+    file: &[u8],
+    from: usize,
+    end: usize,
+    kind: Kind,
+    width: u32,
+    o: usize,
+) -> Option<Kept>
     requires { Wide file.now end kind width × ((kind ≡ Kind.Bits → ⊥) × (kind ≡ Kind.Integer → width ≡ 32)) }
     ensures { Keeps file.now from end kind width o result }
 {
     if !head_keeps(file, from, end, kind, o) {
-        return Kept {
-            kept: false,
-            clean: false,
-            end: 0,
-        };
+        return None;
     }
     let at = delta::data_at(file, o);
     match kind {
-        Kind::Bits => Kept {
-            kept: false,
-            clean: false,
-            end: 0,
-        },
-        Kind::Integer => {
-            let to = symbols_end(file, 32, o);
-            Kept {
-                kept: to <= end,
-                clean: true,
-                end: to,
-            }
-        }
-        Kind::Real => Kept {
-            kept: at + 8 <= end,
-            clean: true,
-            end: at + 8,
-        },
-        Kind::Text => {
-            let zero = zero_from(file, at, end);
-            Kept {
-                kept: zero < end,
-                clean: true,
-                end: zero + 1,
-            }
-        }
+        Kind::Bits => None,
+        Kind::Integer => unpadded(symbols_end(file, 32, o), end),
+        Kind::Real => unpadded(at + 8, end),
+        Kind::Text => unpadded(zero_from(file, at, end) + 1, end),
     }
 }

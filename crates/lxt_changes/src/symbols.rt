@@ -79,18 +79,11 @@ pub struct Window {
     pub to: usize,
 }
 
-// Whether data is allowed, and what is known of good bytes after that was found.
-#[derive(Clone, Copy)]
-pub struct Checked {
-    pub allowed: bool,
-    pub window: Window,
-}
-
-// All bytes from `from` up to `to` are good. Where they meet the window, only those outside it are read;
-// where they end below it, the gap is read too, and the window is kept if the gap is good. Changes are
-// visited as their offsets fall, so that each byte is read about once, although the changes of several
-// chains, narrow and wide ones, are interleaved.
-fn all_good(file: &[u8], w: Window, from: usize, to: usize) -> Checked
+// All bytes from `from` up to `to` are good: then the window that is known after that, else none. Where they meet
+// the window, only those outside it are read; where they end below it, the gap is read too, and the window is kept
+// if the gap is good. Changes are visited as their offsets fall, so that each byte is read about once, although the
+// changes of several chains, narrow and wide ones, are interleaved.
+fn all_good(file: &[u8], w: Window, from: usize, to: usize) -> Option<Window>
     requires { Known file.now w × ((from ≤ to) × (to ≤ length file.now)) }
     ensures { Answered file.now (all_good file.now from to) result }
 {
@@ -102,29 +95,20 @@ fn all_good(file: &[u8], w: Window, from: usize, to: usize) -> Checked
     }
     let low = good_from(file, from, w.from);
     if from < low {
-        return Checked {
-            allowed: false,
-            window: w,
-        };
+        return None;
     }
     let high = good_from(file, w.to, to);
     if w.to < high {
-        return Checked {
-            allowed: false,
-            window: w,
-        };
+        return None;
     }
     let top = to.max(w.to);
-    Checked {
-        allowed: true,
-        window: Window { from: low, to: top },
-    }
+    Some(Window { from: low, to: top })
 }
 
 // The same below the window: the new one goes on upward to the first byte that is not good, or joins the
 // old one. Data that starts below such a byte and reaches past it is not good, so what is known above it
 // may be forgotten. Of an empty window there is nothing to keep.
-fn all_good_below(file: &[u8], w: Window, from: usize, to: usize) -> Checked
+fn all_good_below(file: &[u8], w: Window, from: usize, to: usize) -> Option<Window>
     requires { Known file.now w × ((from ≤ to) × ((to < w.from) × (to ≤ length file.now))) }
     ensures { Answered file.now (all_good file.now from to) result }
 {
@@ -133,62 +117,49 @@ fn all_good_below(file: &[u8], w: Window, from: usize, to: usize) -> Checked
     }
     let low = good_from(file, from, to);
     if from < low {
-        return Checked {
-            allowed: false,
-            window: w,
-        };
+        return None;
     }
     let high = good_to(file, to, w.from);
     if high < w.from {
-        return Checked {
-            allowed: true,
-            window: Window {
-                from: low,
-                to: high,
-            },
-        };
-    }
-    Checked {
-        allowed: true,
-        window: Window {
+        return Some(Window {
             from: low,
-            to: w.to,
-        },
+            to: high,
+        });
     }
+    Some(Window {
+        from: low,
+        to: w.to,
+    })
 }
 
 // The same with no window.
-fn all_good_anew(file: &[u8], from: usize, to: usize) -> Checked
+fn all_good_anew(file: &[u8], from: usize, to: usize) -> Option<Window>
     requires { (from ≤ to) × (to ≤ length file.now) }
     ensures { Answered file.now (all_good file.now from to) result }
 {
     let low = good_from(file, from, to);
-    Checked {
-        allowed: low <= from,
-        window: Window { from: low, to },
+    if from < low {
+        return None;
     }
+    Some(Window { from: low, to })
 }
 
 // The codes of `width` symbols of `b` bits from `at` on are allowed. Two codes of 4 bits fill a byte; of an
 // odd width the second code of the last byte is none.
-pub fn codes_allowed(file: &[u8], b: u32, width: u32, at: usize, w: Window) -> Checked
+pub fn codes_allowed(file: &[u8], b: u32, width: u32, at: usize, w: Window) -> Option<Window>
     requires { Known file.now w × Data file.now b width at }
     ensures { Answered file.now (codes_allowed file.now b width at) result }
 {
     if b != 4 {
-        return Checked {
-            allowed: true,
-            window: w,
-        };
+        return Some(w);
     }
     let last = at + width as usize / 2;
-    let checked = all_good(file, w, at, last);
+    let seen = all_good(file, w, at, last)?;
     if width % 2 == 0 {
-        return checked;
+        return Some(seen);
     }
-    let byte = file[last];
-    Checked {
-        allowed: checked.allowed & (byte / 16 % 16 <= 8),
-        window: checked.window,
+    if file[last] / 16 % 16 <= 8 {
+        return Some(seen);
     }
+    None
 }

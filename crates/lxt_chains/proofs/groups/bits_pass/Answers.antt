@@ -1,5 +1,4 @@
-use borrow.Author.Tests.{not-true, not-false}
-use Rattle.lxt_chains.proofs.PassLaws.{head_inside, no_bits, bits_head, bits_far, bits_few, bits_data, wrong_codes, good_codes}
+use Rattle.lxt_chains.proofs.PassLaws.{head_inside, no_bits, bits_head, bits_far, bits_few, bits_data, codes_judge}
 use Rattle.lxt_chains.proofs.groups.bits_pass.Goals as goal
 
 pub returns-then-width-eq0 : goal.returns-then-width-eq0
@@ -23,11 +22,8 @@ returns-then-size_of-ne4 c = bits_few _ _ c.requires.0 _ _ _ c.requires.1.0 c.if
 pub data_at-requires : goal.data_at-requires
 data_at-requires c = head_inside _ _ c.requires.0 _ _ _ c.head_keeps.ensures c.if-not-head_keeps.false
 
-pub codes_allowed-checked-requires : goal.codes_allowed-checked-requires
-codes_allowed-checked-requires c = (c.requires.1.0, bits_data _ _ c.requires.0 _ _ _ c.requires.1.0 c.if-width-eq0.false _ c.head_keeps.ensures c.if-not-head_keeps.false _ c.symbols_fit.ensures c.if-not-symbols_fit.false _ c.size_of.ensures.0 c.if-size_of-ne4.false _ c.data_at.ensures.0 c.requires.1.1)
-
-pub returns-then-not-checked : goal.returns-then-not-checked
-returns-then-not-checked c = wrong_codes _ _ c.requires.0 _ _ _ c.requires.1.0 c.if-width-eq0.false _ c.head_keeps.ensures c.if-not-head_keeps.false _ c.symbols_fit.ensures c.if-not-symbols_fit.false _ c.size_of.ensures.0 c.if-size_of-ne4.false _ c.data_at.ensures.0 _ c.codes_allowed-checked.ensures (not-true _ c.if-not-checked.true)
+pub codes_allowed-requires : goal.codes_allowed-requires
+codes_allowed-requires c = (c.requires.1.0, bits_data _ _ c.requires.0 _ _ _ c.requires.1.0 c.if-width-eq0.false _ c.head_keeps.ensures c.if-not-head_keeps.false _ c.symbols_fit.ensures c.if-not-symbols_fit.false _ c.size_of.ensures.0 c.if-size_of-ne4.false _ c.data_at.ensures.0 c.requires.1.1)
 
 pub returns : goal.returns
-returns c = good_codes _ _ c.requires.0 _ _ _ c.requires.1.0 c.if-width-eq0.false _ c.head_keeps.ensures c.if-not-head_keeps.false _ c.symbols_fit.ensures c.if-not-symbols_fit.false _ c.size_of.ensures.0 c.if-size_of-ne4.false _ c.data_at.ensures.0 _ c.codes_allowed-checked.ensures (not-false _ c.if-not-checked.false)
+returns c = codes_judge _ _ c.requires.0 _ _ _ c.requires.1.0 c.if-width-eq0.false _ c.head_keeps.ensures c.if-not-head_keeps.false _ c.symbols_fit.ensures c.if-not-symbols_fit.false _ c.size_of.ensures.0 c.if-size_of-ne4.false _ c.data_at.ensures.0 _ c.codes_allowed.ensures
