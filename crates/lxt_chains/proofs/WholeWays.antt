@@ -7,6 +7,8 @@ use mathlib.Core.List.{List, map}
 use lib.ListN.{length, get_or, get_or-eq_default}
 use native.Mathlib.Omega.{arith}
 use native.Mathlib.Decide.{dec_le, ℕ_discrete}
+use Rattle.std.specs.Prelude.{Some, None}
+use Rattle.std.proofs.lemmas.Option.{none-some, same_Some}
 use Rattle.lxt_format.specs.Basics.{◌unless◌, ◌or_else◌, Answer, given, refused, answer, range, first_fault}
 use Rattle.lxt_format.specs.BasicsLaws.{on_test, on_zero, stops, answer_refused, was_given, passed_on, same_refusal, fault_next, fault_here}
 use Rattle.lxt_format.specs.Sections.{facility_count, end_of}
@@ -35,7 +37,6 @@ use Rattle.lxt_chains.proofs.RootLaws.{first_plain}
 use Rattle.lxt_chains.proofs.FittingLaws.{no_first, fits_pass, unfit, clean_is}
 use Rattle.lxt_chains.specs.declared.chains.Chains.{Chains}
 use Rattle.lxt_chains.specs.declared.sweep.Totals.{Totals}
-use Rattle.lxt_chains.specs.declared.whole.Outcome.{Outcome}
 
 module _ (s : List ℕ) (t : Tables) (h : given t ≡ tables_read s) where
   -- what the chains are read with
@@ -66,7 +67,7 @@ module _ (s : List ℕ) (t : Tables) (h : given t ≡ tables_read s) where
   pub chains_refused : {A : Type 0} (a : A) (parts : List ℕ) (n : ℕ) → refused n ≡ outcome s parts → refused n ≡ answer (file_refusal s) a
   chains_refused a parts n q = same_refusal (chains_verdict s) (file_refusal s) n (outcome_of s parts) a from_chains q
 
-  module _ (parts : List ℕ) (r : Outcome) (q : given r ≡ outcome s parts) where
+  module _ (parts : List ℕ) (r : Totals) (q : given r ≡ outcome s parts) where
     no_refusal : file_refusal s ≡ 0
     no_refusal = from_chains ∙ (was_given (chains_verdict s) (outcome_of s parts) r q).0
 
@@ -107,23 +108,26 @@ count_asks s p t hp ht = (placed_given s p hp, (known_given s t ht).names_end_le
 
 -- ---- refusals 15 to 17
 
-module _ (s parts : List ℕ) (r : Totals) (w : SweptAll s parts (root_offsets s) r) where
-  pub swept_passes : r.kept ≡ true → given (record { clean = r.clean; free = r.free }) ≡ outcome s parts
-  unfolding outcome_of
-  swept_passes h =
-      let z : chains_verdict s ≡ 0 = fits_pass s (sym w.kept ∙ h) in
-      rw (z, w.clean h ∙ clean_is s, w.free h)
+pub swept_passes : (s parts : List ℕ) (r : Totals) → SweptAll s parts (root_offsets s) (Some r) → given r ≡ outcome s parts
+unfolding outcome_of
+swept_passes s parts r w =
+    on_test (fitting s (end_of s) (left s (root_offsets s)))
+    (λ e.
+    let z : chains_verdict s ≡ 0 = fits_pass s e in
+    let g = same_Some r _ (rw e at w.told) in
+    rw (z, g, clean_is s))
+    (λ e. absurd (none-some r (sym (rw e at w.told))))
 
-  module _ (h : r.kept ≡ false) where
-    pub swept_breaks : Broken s
-    swept_breaks = unfit s (sym w.kept ∙ h)
+module _ (s parts : List ℕ) (w : SweptAll s parts (root_offsets s) None) where
+  pub swept_breaks : Broken s
+  swept_breaks = unfit s (on_test (fitting s (end_of s) (left s (root_offsets s))) (λ e. absurd (none-some _ (rw e at w.told))) (λ e. e))
 
-    pub swept_refused : (n : ℕ) → refused n ≡ answer (chains_verdict s) (all_clean s) → refused n ≡ outcome s parts
-    swept_refused n q = same_refusal (chains_verdict s) (chains_verdict s) n (all_clean s) (outcome_of s parts) refl q
+  pub swept_refused : (n : ℕ) → refused n ≡ answer (chains_verdict s) (all_clean s) → refused n ≡ outcome s parts
+  swept_refused n q = same_refusal (chains_verdict s) (chains_verdict s) n (all_clean s) (outcome_of s parts) refl q
 
-    -- what finds the refusal of a broken file finds one
-    pub swept_never : {P : Type 0} (b : Bool) → given b ≡ answer (chains_verdict s) (all_clean s) → P
-    swept_never b q = absurd (swept_breaks (was_given (chains_verdict s) (all_clean s) b q).0)
+  -- what finds the refusal of a broken file finds one
+  pub swept_never : {P : Type 0} (b : Bool) → given b ≡ answer (chains_verdict s) (all_clean s) → P
+  swept_never b q = absurd (swept_breaks (was_given (chains_verdict s) (all_clean s) b q).0)
 
 -- the first fault of a range is that of the first number that has one
 first_at : (fault : ℕ → ℕ) (i k f : ℕ) → i ≤ f → f < i + k → ((g : ℕ) → i ≤ g → g < f → fault g ≡ 0) → (fault f ≡ 0 → ⊥) → first_fault (map fault (range i k)) ≡ fault f

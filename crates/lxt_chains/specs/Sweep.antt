@@ -1,5 +1,5 @@
 -- Checks 15, 16 and 17 together, over changes by falling offset.
-use Rattle.std.specs.Prelude.{ℕ, ◌+◌, ◌-◌, ◌≤◌, ◌<◌, ◌≡◌, Bool, true, false, ◌&&◌, List, [], ◌∷◌, length, get_or, leb, eqb, Option, Some, None}
+use Rattle.std.specs.Prelude.{ℕ, ◌+◌, ◌-◌, ◌≤◌, ◌<◌, ◌≡◌, Bool, true, false, ◌&&◌, List, [], ◌∷◌, length, get_or, leb, eqb, if◌then◌else◌, Option, Some, None}
 use Rattle.lxt_format.specs.Basics.{Answer, answer, all}
 use Rattle.lxt_format.specs.Sections.{end_of}
 use Rattle.lxt_format.specs.Geometry.{is_alias, own_facts}
@@ -17,7 +17,6 @@ use Rattle.lxt_changes.specs.Keeping.{kept_with}
 use Rattle.lxt_changes.specs.declared.keep.Kept.{Kept}
 use Rattle.lxt_chains.specs.declared.sweep.Swept.{Swept}
 use Rattle.lxt_chains.specs.declared.sweep.Totals.{Totals}
-use Rattle.lxt_chains.specs.declared.whole.Outcome.{Outcome}
 
 -- a change breaks no rule of 15 or 16 and ends at or below a bound
 unfoldable pub keeps : List ℕ → ℕ → Pair → Bool
@@ -90,15 +89,16 @@ pub record Went (s : List ℕ) (c : Chains) (parts : List ℕ) (base i : ℕ) (w
   pub gone : (n : Swept) → r ≡ Some n → Gone s c parts base i widths kinds os₀ bound₀ clean₀ free₀ os slots n
   pub broken : r ≡ None → fitting s bound₀ (left s os₀) ≡ false
 
--- what the whole sweep found
-pub record SweptAll (s parts os : List ℕ) (r : Totals) : Type 0 where
-  pub kept : r.kept ≡ fitting s (end_of s) (left s os)
-  pub clean : r.kept ≡ true → r.clean ≡ cleanly s (left s os)
-  pub free : r.kept ≡ true → r.free ≡ free_around s parts (end_of s) (left s os)
+-- what the whole sweep finds where all changes keep the rules: whether their padding was clean, and how many bytes are free
+abbrev pub totals_of : List ℕ → List ℕ → List ℕ → Totals
+totals_of s parts os = record { clean = cleanly s (left s os); free = free_around s parts (end_of s) (left s os) }
+
+pub record SweptAll (s parts os : List ℕ) (r : Option Totals) : Type 0 where
+  pub told : r ≡ (if fitting s (end_of s) (left s os) then Some (totals_of s parts os) else None)
 
 -- what is found of the changes of a file: whether their padding was clean, and how many bytes are free; or the refusal, 15 to 17
-unfoldable pub outcome_of : List ℕ → List ℕ → Outcome
+unfoldable pub outcome_of : List ℕ → List ℕ → Totals
 outcome_of s parts = record { clean = all_clean s; free = free_around s parts (end_of s) (left s (root_offsets s)) }
 
-abbrev pub outcome : List ℕ → List ℕ → Answer Outcome
+abbrev pub outcome : List ℕ → List ℕ → Answer Totals
 outcome s parts = answer (chains_verdict s) (outcome_of s parts)

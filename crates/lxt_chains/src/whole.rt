@@ -9,6 +9,7 @@ ghost use Rattle.lxt_chains.specs.Free.{Ordered};
 ghost use Rattle.lxt_chains.specs.Sweep.{outcome};
 
 use crate::chains::Chains;
+use crate::sweep::Totals;
 use crate::{chains, lowest, sweep};
 use lxt_changes::fault;
 use lxt_format::Refusal;
@@ -42,28 +43,19 @@ fn refused(file: &[u8], c: Chains) -> Result<bool, Refusal>
     chains::facility_fault(file, c, f)
 }
 
-// Of the changes of a file without refusal: whether the padding of all is 0, and how many bytes from offset 4 on
-// lie in no change and no part.
-#[derive(Clone, Copy)]
-pub struct Outcome {
-    pub clean: bool,
-    pub free: usize,
-}
-
-// Refusals 15 to 17, once the tables have passed.
-pub fn chains_outcome(file: &[u8], t: Tables, parts: &[u64]) -> Result<Outcome, Refusal>
+// Refusals 15 to 17, once the tables have passed; else whether the padding of all changes is 0, and how many bytes
+// from offset 4 on lie in no change and no part.
+pub fn chains_outcome(file: &[u8], t: Tables, parts: &[u64]) -> Result<Totals, Refusal>
     requires { (given t ≡ tables_read file.now) × Ordered parts.now }
     ensures { says result ≡ outcome file.now parts.now }
 {
     let c = chains_of(file, t);
-    let swept = sweep::all_keep(file, c, parts);
-    if !swept.kept {
-        refused(file, c)?;
-    }
-    Ok(Outcome {
-        clean: swept.clean,
-        free: swept.free,
-    })
+    let Some(found) = sweep::all_keep(file, c, parts) else {
+        // a file in which a rule is broken has a refusal
+        let clean = refused(file, c)?;
+        return Ok(Totals { clean, free: 0 });
+    };
+    Ok(found)
 }
 
 // A file without refusal: whether its padding is 0, and its tables.
