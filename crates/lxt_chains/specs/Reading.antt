@@ -1,16 +1,18 @@
 -- What the functions of this crate ask of a file and of what it is read with.
-use Rattle.std.specs.Prelude.{ℕ, ◌≤◌, ◌<◌, ◌≡◌, Bool, true, List, length, get_or, if◌then◌else◌}
+use Rattle.std.specs.Prelude.{ℕ, ◌≤◌, ◌<◌, ◌≡◌, Bool, true, List, length, get_or, eqb, if◌then◌else◌, Option, Some, None}
 use Rattle.lxt_format.specs.Limits.{longest_file, most_facilities}
 use Rattle.lxt_format.specs.Sections.{end_of, changes_from}
 use Rattle.lxt_format.specs.Basics.{◌unless◌, ◌or_else◌, Answer, answer}
 use Rattle.lxt_format.specs.Geometry.{is_alias, geometries_allowed, sync_of}
 use Rattle.lxt_format.specs.Judge.{fault_from, clean_from, chains_refusal, changes_apart, file_refusal, all_clean}
-use Rattle.lxt_format.specs.Walk.{sort}
+use Rattle.lxt_format.specs.Changes.{previous_of}
+use Rattle.lxt_format.specs.Walk.{sort, top, high}
 use Rattle.lxt_tables.specs.Stage.{Geometry, tables_of}
 use Rattle.lxt_tables.specs.Asked.{Sync}
 use Rattle.lxt_changes.specs.Faults.{LastZero}
 use Rattle.lxt_chains.specs.Pending.{pending_changes, Each, Allowed}
 use Rattle.lxt_chains.specs.declared.chains.Chains.{Chains}
+use Rattle.lxt_chains.specs.declared.next.Taken.{Taken}
 use Rattle.lxt_chains.specs.declared.whole.Examined.{Examined}
 
 -- the places of a file that refusals 1 to 14 pass
@@ -52,6 +54,10 @@ pub record Readable (s os : List ℕ) : Type 0 where
 pub record Pending (s : List ℕ) (c : Chains) (os : List ℕ) : Type 0 where
   pub past : (i : ℕ) → c.facilities ≤ i → get_or os i 0 ≡ 0
   pub each : Each (Allowed s) (sort (pending_changes s 0 os))
+
+-- the highest of pending offsets, of equal ones that of the lowest facility, and the offset of the change before it; none where all are 0
+abbrev pub taken_of : List ℕ → List ℕ → Option Taken
+taken_of s os = if eqb (high os) 0 then None else Some (record { number = top os; offset = high os; previous = previous_of s (high os) })
 
 -- the chain of one of the first k facilities has a fault
 pub record RootFault (s : List ℕ) (k : ℕ) : Type 0 where
