@@ -9,7 +9,7 @@ use lib.Dec.{ltb, leb}
 use borrow.Author.Tests.{le-leb, lt-leb, leb-true, ltb-true, ltb-false, eqb-false, ne_eqb, not-true, not-false}
 use Rattle.lxt_format.specs.Limits.{longest_column}
 use Rattle.lxt_format.specs.Basics.{◌unless◌, Answer, given, refused, all, first_fault}
-use Rattle.lxt_format.specs.BasicsLaws.{or_either, or_none, stops}
+use Rattle.lxt_format.specs.BasicsLaws.{or_either, or_none, stops, was_refused}
 use Rattle.lxt_format.specs.Columns.{onto}
 use Rattle.lxt_format.specs.Sections.{facility_count}
 use Rattle.lxt_format.specs.Judge.{file_refusal}
@@ -19,13 +19,18 @@ use Rattle.lxt_tables.specs.Asked.{Roots, Resolved}
 use Rattle.lxt_tables.specs.declared.Tables.{Tables}
 use Rattle.lxt_tables.proofs.TablesLaws.{tables_known}
 use Rattle.lxt_tables.proofs.AliasLaws.{none_known}
-use Rattle.lxt_chains.specs.Reading.{Judged}
+use Rattle.lxt_chains.specs.Reading.{examined_of, examined}
 use Rattle.lxt_chains.specs.declared.whole.Examined.{Examined}
+use Rattle.lxt_chains.proofs.JudgedLaws.{accepted}
 use Rattle.lxt_column.specs.Listing.{Listed}
 use Rattle.lxt_column.proofs.ListLaws.{first_refusal}
 
-pub accepted_file : (s : List ℕ) (r : Examined) → Judged s r → r.refusal ≡ 0 → file_refusal s ≡ 0
-accepted_file s r w h = sym w.refusal ∙ h
+module _ (s : List ℕ) (x : Examined) (h : given x ≡ examined s) where
+  pub file_fine : file_refusal s ≡ 0
+  file_fine = (accepted s x h).refusal
+
+  pub tables_are : x.tables ≡ tables_of s
+  tables_are = (accepted s x h).tables
 
 -- ---- what the list and the roots ask
 
@@ -67,9 +72,11 @@ module _ (s : List ℕ) (time : ℤ) (asked : List ℕ) (lent : ℕ) (bits : Lis
   unfolding column_asked column_buffer column_output
   by_refusal k e n = (sym (rw e (simp (ne_eqb k 0 n))), (sym (rw e (simp (ne_eqb k 0 n))), sym (rw e (simp (ne_eqb k 0 n)))))
 
-  pub file_refused : (r : ℕ) → r ≡ file_refusal s → (r ≡ 0 → ⊥) → Says s time asked lent bits records (refused r) bits records
+  pub file_refused : (r : ℕ) → refused r ≡ examined s → Says s time asked lent bits records (refused r) bits records
   unfolding column_refusal
-  file_refused r e n = by_refusal r (rw (← e) (stops r _ n)) n
+  file_refused r h =
+      let w = was_refused (file_refusal s) r (examined_of s) h in
+      rw w.0 (by_refusal (file_refusal s) (stops (file_refusal s) _ w.1) w.1)
 
   module _ (fine : file_refusal s ≡ 0) where
     -- whether the list is short enough

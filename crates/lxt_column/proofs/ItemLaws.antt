@@ -1,12 +1,12 @@
 -- The laws of one item of a column.
 use Prim.Native.Nat.{ℕ, ◌≤◌, ◌<◌}
-use mathlib.Core.Path.{◌≡◌, refl, sym, ◌∙◌, ap}
+use mathlib.Core.Path.{◌≡◌, refl, ◌∙◌, ap}
 use mathlib.Core.Bool.{true, false}
 use mathlib.Core.List.{List}
 use lib.ListN.{length, length-replicate}
 use lib.IntN.{ℤ}
 use native.Mathlib.Omega.{arith}
-use borrow.Author.Tests.{ne_eqb}
+use borrow.Author.Tests.{ne_eqb, lt-ltb}
 use Rattle.lxt_format.specs.BasicsLaws.{on_zero}
 use Rattle.lxt_format.proofs.JudgeLaws.{accepted, root_sound}
 use Rattle.lxt_values.proofs.SoundChains.{chain_readable}
@@ -30,10 +30,9 @@ use Rattle.lxt_values.specs.Value.{Readies, Shows, start_content, content_from}
 use Rattle.lxt_values.proofs.TimeLaws.{latest_found}
 use Rattle.lxt_values.proofs.StartLaws.{content_at_lem}
 use Rattle.lxt_values.proofs.ReadLaws.{bits_drawn, integer_drawn, symbols_long}
-use Rattle.lxt_reader.specs.Changing.{Chained}
+use Rattle.lxt_reader.specs.Changing.{chain_at}
 use Rattle.lxt_reader.specs.declared.changes.Chain.{Chain}
-use Rattle.lxt_reader.proofs.AskWays.{asked_fine}
-use Rattle.lxt_reader.proofs.ChangeWays.{chain_found}
+use Rattle.lxt_reader.proofs.ChangeWays.{Chained, chain_of_fine}
 use Rattle.lxt_reader.proofs.ValueWays.{latest_asks, latest_fine, visited_fits, readies}
 use Rattle.lxt_column.specs.Listing.{Rooted}
 
@@ -84,17 +83,15 @@ module _ (s : List ℕ) (t : Tables) (file_fine : file_refusal s ≡ 0) (e : t �
 
   -- its chain, as a question about it finds it
   abbrev chain : Chain
-  chain = record { refusal = 0; start = sync_of s (root_of s f); facts = facts_of s f; tables = t }
+  chain = record { start = sync_of s (root_of s f); facts = facts_of s f; tables = t }
 
-  pub chained : Chained s f chain
-  unfolding facts_of
-  chained =
-      let k = tables_of_lem in
-      let w = asked_fine s f (file_refusal s) refl t e file_fine (rw k.facilities below) (root_of s f) refl in
-      chain_found s f _ w refl (own_facts s (root_of s f)) refl (sync_of s (root_of s f)) refl
+  facility_fine : facility_refusal s f ≡ 0
+  unfolding facility_refusal
+  facility_fine = rw (file_fine, lt-ltb f (facility_count s) below)
 
-  pub facility_fine : facility_refusal s f ≡ 0
-  facility_fine = sym chained.refusal
+  chained : Chained s f chain
+  unfolding chain_at
+  chained = chain_of_fine s f chain facility_fine (rw e)
 
   -- the symbols that it writes are as many as it is wide
   pub written_width : (time : ℤ) → length (written (content_at s (root_of s f) time)) ≡ (facts_of s f).width
@@ -103,8 +100,8 @@ module _ (s : List ℕ) (t : Tables) (file_fine : file_refusal s ≡ 0) (e : t �
       let way = chain_of s (sync_of s (root_of s f)) in
       let o : ℕ = latest_at s time way in
       let ready : (o ≡ 0 → ⊥) → Readies s t.end t.order (facts_of s f).kind (facts_of s f).width o (facts_of s f).width =
-      λ some. readies s f chain chained.tables facility_fine (chained.followed refl) o (facts_of s f).width
-      (latest_fine s f time chain chained refl o (visited_in s time way) (refl, refl) some) (omega arith) in
+      λ some. readies s f chain chained o (facts_of s f).width
+      (latest_fine s f time chain chained o (visited_in s time way) (refl, refl) some) (omega arith) in
       let is : content_from s (initial_of s) (facts_of s f).kind (facts_of s f).width o ≡ content_at s (root_of s f) time =
       content_at_lem s (root_of s f) time o (unfold change_at in refl) in
       rw (← is) (long_by s _ _ (kind_of_flags (flags_of s (root_of s f))) (msb_of s (root_of s f)) (lsb_of s (root_of s f)) (initial_of s) o _ ready)
@@ -116,14 +113,14 @@ module _ (s : List ℕ) (t : Tables) (file_fine : file_refusal s ≡ 0) (e : t �
   latest : (o ≡ latest_at s time (chain_of s (sync_of s (root_of s f)))) × (visited ≡ visited_in s time (chain_of s (sync_of s (root_of s f))))
   latest =
       let here = rw er at found in
-      latest_found s time P (sync_of s (root_of s f)) o visited limit (latest_asks s f time (chain s t file_fine e f below) (chained s t file_fine e f below) refl).1 here
+      latest_found s time P (sync_of s (root_of s f)) o visited limit (latest_asks s f time (chain s t file_fine e f below) (chained s t file_fine e f below)).1 here
 
   pub item_visited : visited ≡ visited_at s (root_of s f) time
   unfolding visited_at
   item_visited = latest.1
 
   pub visited_small : visited < 4294967296
-  visited_small = visited_fits s f time (chain s t file_fine e f below) (chained s t file_fine e f below) refl o visited latest
+  visited_small = visited_fits s f time (chain s t file_fine e f below) (chained s t file_fine e f below) o visited latest
 
   module _ (facts : Facts) (ef : facts ≡ own_facts s root) where
     same_facts : facts ≡ facts_of s f
@@ -141,7 +138,7 @@ module _ (s : List ℕ) (t : Tables) (file_fine : file_refusal s ≡ 0) (e : t �
         rw same_facts
         (record {
           enough = enough;
-          ready = λ some. readies s f c w.tables (facility_fine s t file_fine e f below) (w.followed refl) o room (latest_fine s f time c w refl o visited latest some) enough;
+          ready = λ some. readies s f c w o room (latest_fine s f time c w o visited latest some) enough;
         })
 
     -- and is the value at the time

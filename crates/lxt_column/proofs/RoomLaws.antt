@@ -11,7 +11,7 @@ use Rattle.lxt_format.specs.Questions.{facility_refusal, written, widths_of, col
 use Rattle.lxt_format.specs.ValueColumn.{ExactRoom}
 use Rattle.lxt_format.proofs.ValueColumnLaws.{column_fine, number_fine}
 use Rattle.lxt_tables.specs.Stage.{tables_of}
-use Rattle.lxt_reader.proofs.ValueWays.{below_of}
+use Rattle.lxt_reader.proofs.AskWays.{below_of}
 use Rattle.lxt_column.proofs.ItemLaws.{written_width}
 
 -- lists added up, each as long as a number says

@@ -1,7 +1,7 @@
 -- What the functions of this crate ask of a file, of the list of facility numbers and of what is known of its roots.
 use Rattle.std.specs.Prelude.{ℕ, ◌/◌, ◌%◌, ◌≤◌, ◌<◌, ◌≡◌, true, false, List, [], ◌∷◌, length, get_or, ltb}
 use Rattle.lxt_format.specs.Limits.{most_facilities, longest_column}
-use Rattle.lxt_format.specs.Basics.{Answer, given, refused, all}
+use Rattle.lxt_format.specs.Basics.{all}
 use Rattle.lxt_format.specs.Sections.{facility_count}
 use Rattle.lxt_format.specs.Geometry.{is_alias, sync_of}
 use Rattle.lxt_format.specs.Changes.{chain_of}
@@ -49,10 +49,9 @@ undriven Integer lent = 3 ∷ 0 ∷ 0 ∷ 0 ∷ []
 undriven Real lent = 3 ∷ 0 ∷ 0 ∷ 0 ∷ []
 undriven Text lent = 4 ∷ 0 ∷ lent ∷ 0 ∷ []
 
--- the record by what is answered of the value; it is never refused here
-unfoldable pub record_from : ℕ → ℕ → Kind → Answer Shown → List ℕ
-record_from start lent kind (given (bits_of width)) = 0 ∷ start ∷ width ∷ 0 ∷ []
-record_from start lent kind (given (real_of x b)) = 1 ∷ 0 ∷ 0 ∷ b ∷ []
-record_from start lent kind (given (text_of from size)) = 2 ∷ from ∷ size ∷ 0 ∷ []
-record_from start lent kind (given nothing) = undriven kind lent
-record_from start lent kind (refused n) = 3 ∷ 0 ∷ 0 ∷ 0 ∷ []
+-- the record by what is answered of the value
+unfoldable pub record_from : ℕ → ℕ → Kind → Shown → List ℕ
+record_from start lent kind (bits_of width) = 0 ∷ start ∷ width ∷ 0 ∷ []
+record_from start lent kind (real_of x b) = 1 ∷ 0 ∷ 0 ∷ b ∷ []
+record_from start lent kind (text_of from size) = 2 ∷ from ∷ size ∷ 0 ∷ []
+record_from start lent kind nothing = undriven kind lent

@@ -5,7 +5,7 @@ ghost use Rattle.lxt_format.specs.Buffers.{placed};
 ghost use Rattle.lxt_format.specs.Geometry.{sync_of};
 ghost use Rattle.lxt_format.specs.Changes.{chain_of};
 ghost use Rattle.lxt_format.specs.Values.{source_by};
-ghost use Rattle.lxt_format.specs.Answers.{shown, value_says};
+ghost use Rattle.lxt_format.specs.Answers.{shown, value_shown};
 ghost use Rattle.lxt_format.specs.Questions.{written, record_by, widths_of, column_bits, column_records, column_visited};
 ghost use Rattle.lxt_tables.specs.Asked.{Resolved};
 ghost use Rattle.lxt_values.specs.Times.{first_below, visited_to};
@@ -66,7 +66,7 @@ fn undriven(kind: Kind, lent: usize) -> [u64; 4]
 // The record of a value whose bits, if it has some, start at `start`.
 #[tactic(auto, unfolding(crate::specs::Listing::record_from))]
 fn record_of(kind: Kind, value: Value, start: usize, lent: usize) -> [u64; 4]
-    ensures { result ≡ record_from start lent kind (value_says value) }
+    ensures { result ≡ record_from start lent kind (value_shown value) }
 {
     match value {
         Value::Bits { width } => [BITS, start as u64, u64::from(width), 0],
@@ -76,7 +76,6 @@ fn record_of(kind: Kind, value: Value, start: usize, lent: usize) -> [u64; 4]
             length,
         } => [TEXT, u64::from(from), u64::from(length), 0],
         Value::NotDriven => undriven(kind, lent),
-        Value::Refused(_) => [NOT_DRIVEN, 0, 0, 0],
     }
 }
 

@@ -6,13 +6,13 @@ mod items;
 mod list;
 
 ghost use Rattle.std.specs.Prelude.{◌≡◌, true, length};
-ghost use Rattle.lxt_format.specs.Answers.{column_says};
+ghost use Rattle.lxt_format.specs.Answers.{says};
 ghost use Rattle.lxt_format.specs.Questions.{column_asked, column_buffer, column_output};
 ghost use Rattle.lxt_tables.specs.Asked.{Resolved};
 ghost use Rattle.lxt_column.specs.Listing.{Listed};
 
 use lxt_chains::whole::judged;
-use lxt_format::{ColumnAnswer, ColumnList};
+use lxt_format::{ColumnList, Refusal};
 use lxt_tables::{Tables, aliases};
 
 // Once all numbers are known to be those of facilities, and the roots of all facilities are in a table.
@@ -25,21 +25,21 @@ fn by_roots(
     lent: usize,
     bits: &mut [u8],
     records: &mut [[u64; 4]],
-) -> ColumnAnswer
+) -> Result<u64, Refusal>
     requires { Listed file.now t facilities.now × Resolved file.now t.facilities true roots.now }
-    ensures result_value { column_says result ≡ column_asked file.now time facilities.now (length bits.old) (length records.old) }
+    ensures result_value { says result ≡ column_asked file.now time facilities.now (length bits.old) (length records.old) }
     ensures bits_after { bits.new ≡ column_buffer file.now time facilities.now bits.old (length records.old) }
     ensures records_after { records.new ≡ column_output file.now time facilities.now lent (length bits.old) records.old }
 {
     let needed = list::widths(file, t, roots, facilities);
     if (bits.len() < needed) | (records.len() < facilities.len()) {
-        return ColumnAnswer::Refused(21);
+        return Err(Refusal::Room);
     }
     let mut known = [items::UNKNOWN; aliases::ROOM];
     let visited = items::put_all(
         file, t, roots, time, facilities, lent, bits, records, &mut known,
     );
-    ColumnAnswer::Given { visited }
+    Ok(visited)
 }
 
 // A record of four numbers for each facility number of the list, and the symbols of all bits and integers one after
@@ -52,24 +52,20 @@ pub fn column(
     text: &[u8],
     bits: &mut [u8],
     records: &mut [[u64; 4]],
-) -> ColumnAnswer
-    ensures result_value { column_says result ≡ column_asked file.now time facilities.now (length bits.old) (length records.old) }
+) -> Result<u64, Refusal>
+    ensures result_value { says result ≡ column_asked file.now time facilities.now (length bits.old) (length records.old) }
     ensures bits_after { bits.new ≡ column_buffer file.now time facilities.now bits.old (length records.old) }
     ensures records_after { records.new ≡ column_output file.now time facilities.now (length text.now) (length bits.old) records.old }
 {
-    let j = judged(file);
-    if j.refusal != 0 {
-        return ColumnAnswer::Refused(j.refusal);
-    }
+    let t = judged(file)?.tables;
     let asked = ColumnList {
         length: facilities.len(),
     };
     if !asked.length_is_allowed() {
-        return ColumnAnswer::Refused(35);
+        return Err(Refusal::ColumnLength);
     }
-    let t = j.tables;
     if !list::all_below(facilities, t.facilities) {
-        return ColumnAnswer::Refused(18);
+        return Err(Refusal::Facility);
     }
     let mut roots = [aliases::UNKNOWN; aliases::ROOM];
     aliases::put_roots(file, t.geometry as usize, t.facilities, &mut roots);

@@ -1,33 +1,36 @@
 use mathlib.Core.Path.{ap}
 use mathlib.Core.Bool.{not}
+use lib.ListN.{length}
 use mir.Syntax.{w64}
 use mir.ValLaws.{to_z-of_z}
-use Rattle.lxt_column.proofs.ColumnWays.{accepted_file, file_refused, too_long, wrong_number, list_known, roots_ask, roots_known}
+use Rattle.std.proofs.lemmas.Result.{err_from_is_err_and}
+use Rattle.lxt_column.proofs.ColumnWays.{file_fine, tables_are, file_refused, too_long, wrong_number, list_known, roots_ask, roots_known}
 use Rattle.lxt_column.proofs.column.Goals as goal
 
-pub returns-then-j-ne0 : goal.returns-then-j-ne0
-returns-then-j-ne0 c =
-    let all = file_refused _ _ _ _ _ _ _ c.judged-j.ensures.refusal c.if-j-ne0.true in
-    record { result_value = all.0; bits_after = all.1.0; records_after = all.1.1 }
+pub returns-in_err-t : goal.returns-in_err-t
+returns-in_err-t c =
+    let p = err_from_is_err_and c.from_residual.result c.from_residual.ensures.1 in
+    let all = file_refused c.args.file.now c.args.time c.args.facilities.now (length c.args.text.now) c.args.bits.now c.args.records.now _ c.in_err-t.ensures in
+    rw (p.1, p.2) (record { result_value = all.0; bits_after = all.1.0; records_after = all.1.1 })
 
 pub returns-then-not-length_is_allowed : goal.returns-then-not-length_is_allowed
 returns-then-not-length_is_allowed c =
-    let all = too_long _ _ _ _ _ _ (accepted_file _ _ c.judged-j.ensures c.if-j-ne0.false) _ c.length_is_allowed.ensures (ap not c.if-not-length_is_allowed.true) in
+    let all = too_long _ _ _ _ _ _ (file_fine _ _ c.in_ok-t.ensures) _ c.length_is_allowed.ensures (ap not c.if-not-length_is_allowed.true) in
     record { result_value = all.0; bits_after = all.1.0; records_after = all.1.1 }
 
 pub returns-then-not-all_below : goal.returns-then-not-all_below
 returns-then-not-all_below c =
-    let all = wrong_number _ _ _ _ _ _ (accepted_file _ _ c.judged-j.ensures c.if-j-ne0.false) _ c.length_is_allowed.ensures (ap not c.if-not-length_is_allowed.false) _ c.judged-j.ensures.tables _ c.all_below.ensures (ap not c.if-not-all_below.true) in
+    let all = wrong_number _ _ _ _ _ _ (file_fine _ _ c.in_ok-t.ensures) _ c.length_is_allowed.ensures (ap not c.if-not-length_is_allowed.false) _ (tables_are _ _ c.in_ok-t.ensures) _ c.all_below.ensures (ap not c.if-not-all_below.true) in
     record { result_value = all.0; bits_after = all.1.0; records_after = all.1.1 }
 
 pub put_roots-requires : goal.put_roots-requires
-put_roots-requires c = roots_ask _ _ (accepted_file _ _ c.judged-j.ensures c.if-j-ne0.false) c.judged-j.ensures.tables
+put_roots-requires c = roots_ask _ _ (file_fine _ _ c.in_ok-t.ensures) (tables_are _ _ c.in_ok-t.ensures)
 
 pub by_roots-requires : goal.by_roots-requires
 by_roots-requires c =
-    let file_fine = accepted_file _ _ c.judged-j.ensures c.if-j-ne0.false in (
-      list_known _ _ file_fine _ c.judged-j.ensures.tables _ c.length_is_allowed.ensures (ap not c.if-not-length_is_allowed.false) _ c.all_below.ensures (ap not c.if-not-all_below.false),
-      roots_known _ _ file_fine c.judged-j.ensures.tables _ _ c.put_roots.ensures,
+    let fine = file_fine _ _ c.in_ok-t.ensures in (
+      list_known _ _ fine _ (tables_are _ _ c.in_ok-t.ensures) _ c.length_is_allowed.ensures (ap not c.if-not-length_is_allowed.false) _ c.all_below.ensures (ap not c.if-not-all_below.false),
+      roots_known _ _ fine (tables_are _ _ c.in_ok-t.ensures) _ _ c.put_roots.ensures,
     )
 
 pub returns : goal.returns
