@@ -3,15 +3,15 @@ use Prim.Native.Nat.{ℕ, ◌+◌, ◌*◌, ◌-◌, ◌≤◌, ◌<◌}
 use native.Mathlib.Nat.{zero-add}
 use native.Mathlib.Omega.{arith}
 use native.Mathlib.Decide.{dec_le}
-use mathlib.Core.Path.{◌≡◌, refl, sym, ◌∙◌}
-use mathlib.Core.Bool.{true, false, true≢false}
+use mathlib.Core.Path.{◌≡◌, refl, ◌∙◌}
+use Rattle.std.specs.Prelude.{Some, None}
 use mathlib.Core.List.{List, ◌++◌, append-nil}
 use lib.ListN.{length, take, drop, replicate, length-replicate, get_or-replicate, get_or-eq_default}
 use lib.Seq.{length-take-le, take_at, take-append_seam}
 use lib.Dec.{leb, lit<}
 use borrow.Author.Tests.{leb-true, le-leb, lt-leb, ne_eqb}
-use Rattle.lxt_format.specs.Basics.{◌unless◌}
-use Rattle.lxt_format.specs.BasicsLaws.{neither, kept, next_check, this_check}
+use Rattle.lxt_format.specs.Basics.{◌unless◌, given, refused, answer}
+use Rattle.lxt_format.specs.BasicsLaws.{neither, kept, this_check, was_given, was_refused, same_refusal, goes_on, refuses}
 use Rattle.lxt_format.specs.Columns.{onto}
 use Rattle.lxt_format.specs.Limits.{longest_printed, most_facilities}
 use Rattle.lxt_format.specs.Sections.{facility_count}
@@ -19,6 +19,9 @@ use Rattle.lxt_format.proofs.WalkLaws.{all_asked_lem}
 use Rattle.lxt_format.specs.Judge.{file_refusal}
 use Rattle.lxt_tables.specs.Stage.{tables_of}
 use Rattle.lxt_tables.specs.declared.Tables.{Tables}
+use Rattle.lxt_chains.specs.Reading.{examined_of, examined}
+use Rattle.lxt_chains.specs.declared.whole.Examined.{Examined}
+use Rattle.lxt_chains.proofs.JudgedLaws.{accepted}
 use Rattle.lxt_chains.specs.Tree.{Leaves, Room, Blank}
 use Rattle.lxt_values.specs.declared.entries.Entry.{Entry}
 use Rattle.lxt_print.specs.Lines.{refused_line, accepted_text, print_refusal, printed}
@@ -33,16 +36,25 @@ use Rattle.lxt_print.proofs.StepLaws.{timed_begun, few_changes, line_fits}
 
 -- ---- the refusal
 
-module _ (s : List ℕ) (k : ℕ) (e : k ≡ file_refusal s) where
+module _ (s : List ℕ) where
   -- a file that is too long to print
-  pub too_long : longest_printed < length s → 1 ≡ print_refusal s
+  pub too_long : longest_printed < length s → refused 1 ≡ answer (print_refusal s) (tables_of s)
   unfolding print_refusal
-  too_long h = sym (this_check 1 (file_refusal s) _ (λ z. omega arith) (lt-leb _ _ h))
+  too_long h = refuses _ 1 (tables_of s) (this_check 1 (file_refusal s) _ (λ z. omega arith) (lt-leb _ _ h)) (λ z. omega arith)
 
   -- any other
-  pub long_enough : length s ≤ longest_printed → k ≡ print_refusal s
-  unfolding print_refusal
-  long_enough h = e ∙ sym (next_check 1 (file_refusal s) _ (le-leb _ _ h))
+  module _ (short : length s ≤ longest_printed) where
+    pub judged_refused : (n : ℕ) → refused n ≡ examined s → refused n ≡ answer (print_refusal s) (tables_of s)
+    unfolding print_refusal
+    judged_refused n h =
+        goes_on (1 unless leb (length s) longest_printed) (file_refusal s) (refused n) (tables_of s) (rw (le-leb _ _ short))
+        (same_refusal (file_refusal s) (file_refusal s) n (examined_of s) (tables_of s) refl h)
+
+    pub judged_given : (x : Examined) → given x ≡ examined s → given x.tables ≡ answer (print_refusal s) (tables_of s)
+    unfolding print_refusal
+    judged_given x h =
+        let a = accepted s x h in
+        goes_on (1 unless leb (length s) longest_printed) (file_refusal s) (given x.tables) (tables_of s) (rw (le-leb _ _ short)) (rw (a.refusal, a.tables))
 
 -- ---- the tree
 
@@ -75,7 +87,7 @@ module _ (s : List ℕ) (t : Tables) (w : Opened s t) where
   -- nothing is printed yet
   abbrev nothing_yet : ℕ → Entry → Rest
   nothing_yet m entry =
-      record { tables = t; facility = 0; names = record { left = t.facilities; at = t.names + 8; before = 0 }; leaves = m; entry = entry; count = 0; over = false }
+      record { tables = t; facility = 0; names = record { left = t.facilities; at = t.names + 8; before = 0 }; leaves = m; entry = entry; count = 0 }
 
   all_text : (name : List ℕ) (m : ℕ) (tree nodes : List ℕ) → take (2 * m) nodes ≡ tree → left s m tree ≡ all_left s → (entry : Entry)
       → lines_left s (nothing_yet m entry) nodes ≡ accepted_text s
@@ -91,7 +103,6 @@ module _ (s : List ℕ) (t : Tables) (w : Opened s t) where
       let here : take (2 * m) (tree ++ rest) ≡ tree = take_at tree rest (2 * m) v.tree.room.long in
       record {
         going = record {
-          more = refl;
           opened = w;
           names = names_begun s t w name room;
           waiting = rw here v;
@@ -103,42 +114,42 @@ module _ (s : List ℕ) (t : Tables) (w : Opened s t) where
 
 -- ---- the whole
 
-module _ (s name nodes line : List ℕ) (lent : Lent name nodes line) (k : ℕ) (e : k ≡ print_refusal s) where
+module _ (s name nodes line : List ℕ) (lent : Lent name nodes line) where
   -- a refused file: its line is put, and no other is left
-  pub refusal_left : (k ≡ 0 → ⊥) → (size : ℕ) (line' : List ℕ) → size ≡ length (refused_line k) → line' ≡ onto (refused_line k) line → (r : Rest) → r.over ≡ true
-      → Begins s (record { at = 0; size = size; rest = r }) name nodes line'
-  refusal_left n size line' es el r o = record {
-    sound = record {
-      going = λ h. absurd (true≢false (sym o ∙ h));
-      room = λ h. absurd (true≢false (sym o ∙ h));
-      start = omega arith;
-      fits = line_fits (refused_line k) line line' size es el;
-    };
-    all_left_lem =
-        unfold left_text lines_left printed in
-        rw (o, append-nil, ← e, ne_eqb k 0 n, es, el) (take-append_seam (refused_line k) (drop (length (refused_line k)) line));
-  }
+  pub refusal_left : (k : ℕ) → refused k ≡ answer (print_refusal s) (tables_of s) → (size : ℕ) (line' : List ℕ) → size ≡ length (refused_line k) → line' ≡ onto (refused_line k) line
+      → Begins s (record { at = 0; size = size; rest = None }) name nodes line'
+  refusal_left k h size line' es el =
+      let w = was_refused (print_refusal s) k (tables_of s) h in
+      record {
+        sound = record { going = tt; room = tt; start = omega arith; fits = line_fits (refused_line k) line line' size es el };
+        all_left_lem =
+            unfold left_text printed in
+            rw (append-nil, ne_eqb (print_refusal s) 0 w.1, ← w.0, es, el) (take-append_seam (refused_line k) (drop (length (refused_line k)) line));
+      }
 
-  module _ (z : k ≡ 0) where
+  module _ (t : Tables) (h : given t ≡ answer (print_refusal s) (tables_of s)) where
+    accepts : (print_refusal s ≡ 0) × (t ≡ tables_of s)
+    accepts = was_given (print_refusal s) (tables_of s) t h
+
     -- a file that is not refused is short enough, and accepted
     not_refused : ((1 unless leb (length s) longest_printed) ≡ 0) × (file_refusal s ≡ 0)
     unfolding print_refusal
-    not_refused = neither _ (file_refusal s) (sym e ∙ z)
+    not_refused = neither _ (file_refusal s) accepts.0
 
     short_enough : length s ≤ longest_printed
     short_enough = leb-true _ _ (kept 1 (leb (length s) longest_printed) (lit< tt) not_refused.0)
 
-    pub lines_ask : (t : Tables) → t ≡ tables_of s → Opened s t × ((1023 ≤ length name) × (8192 ≤ length nodes))
-    lines_ask t et = (record { tables = et; accepted = not_refused.1 }, (lent.name_room, lent.tree_room))
+    pub lines_ask : Opened s t × ((1023 ≤ length name) × (8192 ≤ length nodes))
+    lines_ask = (record { tables = accepts.1; accepted = not_refused.1 }, (lent.name_room, lent.tree_room))
 
     -- and all its lines are left
-    pub lines_left_lem : (r : Rest) (nodes' : List ℕ) → AllLines s r name nodes' → Begins s (record { at = 0; size = 0; rest = r }) name nodes' line
+    pub lines_left_lem : (r : Rest) (nodes' : List ℕ) → AllLines s r name nodes' → Begins s (record { at = 0; size = 0; rest = Some r }) name nodes' line
     lines_left_lem r nodes' a = record {
       sound = record {
-        going = λ h. a.going;
-        room = λ h. let l = short_enough in omega (arith, lent.line_room);
+        going = a.going;
+        room = let l = short_enough in omega (arith, lent.line_room);
         start = omega arith;
         fits = omega arith;
       };
-      all_left_lem = unfold left_text printed in rw (← e, z) a.whole;
+      all_left_lem = unfold left_text printed in rw accepts.0 a.whole;
     }

@@ -2,18 +2,19 @@
 use Prim.Native.Nat.{ℕ, ◌+◌, ◌-◌, ◌≤◌, ◌<◌, min}
 use native.Mathlib.Omega.{arith}
 use mathlib.Core.Path.{◌≡◌, refl, sym, ap, ◌∙◌}
-use mathlib.Core.Bool.{true, false, ◌&&◌, ◌||◌}
-use mathlib.Core.List.{List, [], ◌++◌}
+use mathlib.Core.Bool.{Bool, false}
+use Rattle.std.specs.Prelude.{Some, None}
+use mathlib.Core.List.{List, ◌++◌}
 use lib.ListN.{length, take, drop, length-append, length-take, length-drop, take-append-drop}
 use lib.Seq.{slice, length-slice, slice_empty, take-add, take-append-le, drop-append-le, drop-drop, length-take-le}
 use lib.Dec.{eqb}
 use borrow.Author.Tests.{eq-eqb, ne_eqb, eqb-true, eqb-false}
 use Rattle.lxt_format.specs.Basics.{range, joined}
-use Rattle.lxt_format.specs.BasicsLaws.{on_test, or_none}
+use Rattle.lxt_format.specs.BasicsLaws.{on_test}
 use Rattle.lxt_format.specs.Sections.{facility_count}
 use Rattle.lxt_print.specs.Lines.{facility_line, change_line, done_line}
 use Rattle.lxt_print.specs.Placing.{Put}
-use Rattle.lxt_print.specs.Left.{changes_left, lines_left, left_text, Going, Roomy, Sound, NextLine}
+use Rattle.lxt_print.specs.Left.{changes_left, lines_left, rest_left, left_text, Going, Roomy, Sound, NextLine}
 use Rattle.lxt_print.specs.Calls.{Fills}
 use Rattle.lxt_print.specs.declared.printing.Rest.{Rest}
 use Rattle.lxt_print.specs.declared.printing.Printing.{Printing}
@@ -29,22 +30,20 @@ part_is {k = k} {n = n} line at e p = let z : at + k - at ≡ n = omega arith in
 put_long : {b b' text : List ℕ} {at q : ℕ} → Put b at text q b' → length b' ≡ length b
 put_long {b = b} {text = text} {at = at} p = rw p.holds (length_placed b at text (omega (arith, p.place, p.fits)))
 
--- nothing is left where the line is used up and no other is left
-used_up : (s : List ℕ) (p : Printing) (nodes line : List ℕ) → p.at ≡ p.size → left_text s p nodes line ≡ lines_left s p.rest nodes
+-- the others are left where the line is used up
+used_up : (s : List ℕ) (p : Printing) (nodes line : List ℕ) → p.at ≡ p.size → left_text s p nodes line ≡ rest_left s p.rest nodes
 unfolding left_text
 used_up s p nodes line e = rw (e, slice_empty p.size line)
 
-none_left : (s : List ℕ) (r : Rest) (nodes : List ℕ) → r.over ≡ true → lines_left s r nodes ≡ []
+-- a rest has the last line at least
+some_left : (s : List ℕ) (r : Rest) (nodes : List ℕ) → 0 < length (lines_left s r nodes)
 unfolding lines_left
-none_left s r nodes e = rw e
-
--- else there is more
-some_left : (s : List ℕ) (r : Rest) (nodes : List ℕ) → r.over ≡ false → 0 < length (lines_left s r nodes)
-unfolding lines_left
-some_left s r nodes e =
+some_left s r nodes =
     let d : ℕ = r.count + length (changes_left s r nodes) in
     let lines : List ℕ = joined (facility_line s) (range r.facility (facility_count s - r.facility)) ++ joined (change_line s) (changes_left s r nodes) in
-    rw e (let l = length-append lines (done_line d) in let m = done_some d in omega arith)
+    let l = length-append lines (done_line d) in
+    let m = done_some d in
+    omega arith
 
 -- the first bytes of a part
 cut : (l : List ℕ) (at size k : ℕ) → at + k ≤ size → size ≤ length l → take k (drop at l) ≡ take k (slice at size l)
@@ -111,7 +110,7 @@ module _ (s text out₀ : List ℕ) (p : Printing) (name nodes line out : List �
         let a = w.sound.start in
         let l = line_long in
         let first : take taken (drop put text) ≡ take taken (slice p.at p.size line) =
-        ap (λ x. take taken x) (sym w.leaves) ∙ take-append-le taken (slice p.at p.size line) (lines_left s p.rest nodes) (omega arith) in
+        ap (λ x. take taken x) (sym w.leaves) ∙ take-append-le taken (slice p.at p.size line) (rest_left s p.rest nodes) (omega arith) in
         rw (place_is, take-add put taken text, first, cut line p.at p.size taken (omega arith) w.sound.fits)
 
     -- and the others are left
@@ -121,9 +120,9 @@ module _ (s text out₀ : List ℕ) (p : Printing) (name nodes line out : List �
         let a = w.sound.start in
         let l = line_long in
         let n : p.at + (q - put) ≡ p.at + taken = let k = place_is in omega arith in
-        ap (λ x. drop x (take p.size line) ++ lines_left s p.rest nodes) n
-        ∙ ap (λ x. x ++ lines_left s p.rest nodes) (sym (drop-drop taken p.at (take p.size line)))
-        ∙ sym (drop-append-le taken (slice p.at p.size line) (lines_left s p.rest nodes) (omega arith))
+        ap (λ x. drop x (take p.size line) ++ rest_left s p.rest nodes) n
+        ∙ ap (λ x. x ++ rest_left s p.rest nodes) (sym (drop-drop taken p.at (take p.size line)))
+        ∙ sym (drop-append-le taken (slice p.at p.size line) (rest_left s p.rest nodes) (omega arith))
         ∙ ap (λ x. drop taken x) w.leaves
         ∙ drop-drop taken put text
         ∙ ap (λ x. drop x text) (sym place_is)
@@ -156,51 +155,54 @@ module _ (s text out₀ : List ℕ) (p : Printing) (name nodes line out : List �
   unfolding left_text
   line_left n =
       let a = w.sound.start in
-      let k = length-append (slice p.at p.size line) (lines_left s p.rest nodes) in
+      let k = length-append (slice p.at p.size line) (rest_left s p.rest nodes) in
       let m = length-slice p.at p.size line w.sound.fits in
       omega (arith, n)
 
-  -- there is nothing left exactly where the line is used up and no other is left
-  done_is : (eqb p.at p.size && p.rest.over) ≡ eqb put (length text)
-  done_is =
-      let l = left_long in
-      let u = put_upto in
-      on_test (eqb p.at p.size)
-      (λ a.
-      let e = used_up s p nodes line (eqb-true _ _ a) in
-      on_test p.rest.over
-      (λ o. let z : length (left_text s p nodes line) ≡ 0 = rw (e, none_left s p.rest nodes o) in rw (a, o) (sym (eq-eqb put (length text) (omega arith))))
-      (λ o. let z : 0 < length (left_text s p nodes line) = rw e (some_left s p.rest nodes o) in rw (a, o) (sym (ne_eqb put (length text) (λ q. omega arith)))))
-      (λ a. let z = line_left (eqb-false _ _ a) in rw a (sym (ne_eqb put (length text) (λ q. omega arith))))
+  -- where no other line is left
+  module _ (over : p.rest ≡ None) where
+    settled_none : p.at ≡ p.size → length (left_text s p nodes line) ≡ 0
+    settled_none e = rw (used_up s p nodes line e, over)
 
-  -- the buffer is full, or nothing is left
-  put_least : (eqb put (length out) || p.rest.over) ≡ true → put ≡ min (length out₀) (length text)
-  put_least h =
-      let u = put_upto in
-      let b = w.puts.fits in
-      let m = same_room in
-      let l = left_long in
-      on_test (eqb put (length out))
-      (λ a. let e = eqb-true put (length out) a in omega arith)
-      (λ a.
-      let n = eqb-false put (length out) a in
-      let o : p.rest.over ≡ true = rw a at h in
-      let z : length (left_text s p nodes line) ≡ 0 = rw (used_up s p nodes line (settled n), none_left s p.rest nodes o) in
-      omega arith)
+    -- there is nothing left exactly where this one is used up
+    over_done : eqb p.at p.size ≡ eqb put (length text)
+    over_done =
+        let l = left_long in
+        let u = put_upto in
+        on_test (eqb p.at p.size)
+        (λ a. let z = settled_none (eqb-true _ _ a) in rw a (sym (eq-eqb put (length text) (omega arith))))
+        (λ a. let z = line_left (eqb-false _ _ a) in rw a (sym (ne_eqb put (length text) (λ q. omega arith))))
 
-  module _ (h : (eqb put (length out) || p.rest.over) ≡ false) where
-    -- the next line may be put
-    more_is : p.rest.over ≡ false
-    more_is = (or_none (eqb put (length out)) p.rest.over h).1
+    over_least : put ≡ min (length out₀) (length text)
+    over_least =
+        let u = put_upto in
+        let b = w.puts.fits in
+        let m = same_room in
+        let l = left_long in
+        on_test (eqb put (length out))
+        (λ a. let e = eqb-true put (length out) a in omega arith)
+        (λ a. let z = settled_none (settled (eqb-false put (length out) a)) in omega arith)
 
-    more_asks : Going s p.rest name nodes × Roomy s line
-    more_asks = (w.sound.going more_is, w.sound.room more_is)
+  -- where others are
+  module _ (r : Rest) (more : p.rest ≡ Some r) where
+    others_left : 0 < length (left_text s p nodes line)
+    unfolding left_text
+    others_left = let k = length-append (slice p.at p.size line) (lines_left s r nodes) in let o = some_left s r nodes in rw more (omega arith)
+
+    full_done : false ≡ eqb put (length text)
+    full_done = let l = left_long in let o = others_left in sym (ne_eqb put (length text) (λ q. omega arith))
+
+    full_least : put ≡ length out → put ≡ min (length out₀) (length text)
+    full_least e = let u = put_upto in let m = same_room in omega arith
+
+    -- the next one may be put
+    more_asks : Going s r name nodes × Roomy s line
+    more_asks = (rw more at w.sound.going, rw more at w.sound.room)
 
     -- after it what is left is the same
-    fill_turn : (p' : Printing) (name' nodes' line' : List ℕ) → NextLine s p.rest nodes p' name' nodes' line' → Filling s text out₀ p' name' nodes' line' out put
-    fill_turn p' name' nodes' line' n =
-        let e = settled (eqb-false put (length out) (or_none (eqb put (length out)) p.rest.over h).0) in
-        record { sound = n.sound; puts = w.puts; leaves = n.same ∙ sym (used_up s p nodes line e) ∙ w.leaves }
+    fill_turn : (put ≡ length out → ⊥) → (p' : Printing) (name' nodes' line' : List ℕ) → NextLine s r nodes p' name' nodes' line' → Filling s text out₀ p' name' nodes' line' out put
+    fill_turn k p' name' nodes' line' n =
+        record { sound = n.sound; puts = w.puts; leaves = n.same ∙ (let o : left_text s p nodes line ≡ lines_left s r nodes = used_up s p nodes line (settled k) ∙ rw more in sym o) ∙ w.leaves }
 
 -- ---- a turn
 
@@ -217,22 +219,32 @@ module _ {s text out₀ : List ℕ} {p : Printing} {name nodes line out : List �
   pub same_out : length out' ≡ length out₀
   same_out = put_long filling.puts
 
-  -- the buffer is filled
-  pub fill_ended : (p₀ : Printing) (nodes₀ line₀ : List ℕ) → text ≡ left_text s p₀ nodes₀ line₀ → (eqb q (length out') || p.rest.over) ≡ true
-      → Fills s p₀ nodes₀ line₀ out₀ (record { size = q; done = eqb after.at after.size && p.rest.over; left = after }) name nodes line out'
-  fill_ended p₀ nodes₀ line₀ et h = record {
-    counts = rw (← et) (put_least s text out₀ after name nodes line out' q filling settles h);
+  -- the buffer has all that there is room for
+  filled : (done : Bool) → q ≡ min (length out₀) (length text) → done ≡ eqb q (length text) → (p₀ : Printing) (nodes₀ line₀ : List ℕ) → text ≡ left_text s p₀ nodes₀ line₀
+      → Fills s p₀ nodes₀ line₀ out₀ (record { size = q; done = done; left = after }) name nodes line out'
+  filled done least ends p₀ nodes₀ line₀ et = record {
+    counts = rw (← et) least;
     puts = rw (← et) (filling.puts.holds ∙ placed_start out₀ (take q text));
-    ends = rw (← et) (done_is s text out₀ after name nodes line out' q filling settles);
+    ends = rw (← et) ends;
     leaves = rw (← et) filling.leaves;
     sound = filling.sound;
   }
 
-  module _ (h : (eqb q (length out') || p.rest.over) ≡ false) where
+  -- no other line is left
+  pub fill_over : p.rest ≡ None → (p₀ : Printing) (nodes₀ line₀ : List ℕ) → text ≡ left_text s p₀ nodes₀ line₀
+      → Fills s p₀ nodes₀ line₀ out₀ (record { size = q; done = eqb after.at after.size; left = after }) name nodes line out'
+  fill_over o = filled _ (over_least s text out₀ after name nodes line out' q filling settles o) (over_done s text out₀ after name nodes line out' q filling settles o)
+
+  module _ {r : Rest} (more : p.rest ≡ Some r) where
+    -- the buffer is full
+    pub fill_full : q ≡ length out' → (p₀ : Printing) (nodes₀ line₀ : List ℕ) → text ≡ left_text s p₀ nodes₀ line₀
+        → Fills s p₀ nodes₀ line₀ out₀ (record { size = q; done = false; left = after }) name nodes line out'
+    fill_full e = filled _ (full_least s text out₀ after name nodes line out' q filling settles r more e) (full_done s text out₀ after name nodes line out' q filling settles r more)
+
     -- the next line may be put
-    pub line_asks : Going s p.rest name nodes × Roomy s line
-    line_asks = more_asks s text out₀ after name nodes line out' q filling settles h
+    pub line_asks : Going s r name nodes × Roomy s line
+    line_asks = more_asks s text out₀ after name nodes line out' q filling settles r more
 
     -- and so on
-    pub fill_again : {p' : Printing} {name' nodes' line' : List ℕ} → NextLine s p.rest nodes p' name' nodes' line' → Filling s text out₀ p' name' nodes' line' out' q
-    fill_again {p'} {name'} {nodes'} {line'} n = fill_turn s text out₀ after name nodes line out' q filling settles h p' name' nodes' line' n
+    pub fill_again : (q ≡ length out' → ⊥) → {p' : Printing} {name' nodes' line' : List ℕ} → NextLine s r nodes p' name' nodes' line' → Filling s text out₀ p' name' nodes' line' out' q
+    fill_again k {p'} {name'} {nodes'} {line'} n = fill_turn s text out₀ after name nodes line out' q filling settles r more k p' name' nodes' line' n

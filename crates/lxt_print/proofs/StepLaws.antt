@@ -10,21 +10,20 @@ use lib.ListN.{length, get_or, drop, length-append}
 use lib.Seq.{get_or-set_same, get_or-set_other}
 use lib.Dec.{leb, eqb}
 use borrow.Author.Tests.{leb-true, eqb-true, eq-eqb, ne_eqb, not-true, not-false}
-use Rattle.lxt_format.specs.Basics.{any, joined}
-use Rattle.lxt_format.specs.BasicsLaws.{and_both, or_none, on_zero}
+use Rattle.lxt_format.specs.Basics.{given, any, joined}
+use Rattle.lxt_format.specs.BasicsLaws.{and_both, or_none, on_zero, answer_given}
 use Rattle.lxt_format.specs.Columns.{onto}
 use Rattle.lxt_format.specs.Sections.{time_count, end_of}
 use Rattle.lxt_format.specs.Geometry.{roots_of, sync_of}
 use Rattle.lxt_format.specs.Times.{table_allowed, times_allowed, time_of}
 use Rattle.lxt_format.specs.Changes.{previous_of}
 use Rattle.lxt_format.proofs.ChangesLaws.{previous_lt, chain_none}
-use Rattle.lxt_format.specs.Judge.{changes_of, all_changes, end_at}
+use Rattle.lxt_format.specs.Judge.{tables_refusal, changes_of, all_changes, end_at}
 use Rattle.lxt_format.proofs.JudgeLaws.{accepted}
 use Rattle.lxt_format.specs.Values.{content_of}
 use Rattle.lxt_format.specs.Walk.{sort, top, high, step, handed_out, offsets_after}
 use Rattle.lxt_tables.specs.declared.Tables.{Tables}
-use Rattle.lxt_tables.specs.Stage.{tables_of}
-use Rattle.lxt_tables.proofs.TablesLaws.{refusal_is}
+use Rattle.lxt_tables.specs.Stage.{tables_of, tables_read}
 use Rattle.lxt_chains.specs.declared.chains.Chains.{Chains}
 use Rattle.lxt_chains.specs.Pending.{pair_of, pending_changes, root_offsets, Allowed, stacked, Each}
 use Rattle.lxt_chains.proofs.Lists.{each_map}
@@ -68,24 +67,21 @@ module _ (s os : List ℕ) where
   next_after h = let n : high os ≡ 0 → ⊥ = λ e. omega arith in rw (ne_eqb (high os) 0 n)
 
 -- a line is not empty
-pub line_some : (s : List ℕ) (p : Pair) → 0 < length (change_line s p)
+line_some : (s : List ℕ) (p : Pair) → 0 < length (change_line s p)
 unfolding change_line
 line_some s p =
     let l : List ℕ = change_word ++ space ++ decimal p.number ++ space ++ decimal p.offset ++ space ++ signed_decimal (time_of s p.offset) ++ space in
     let e = length-append (l ++ value_text s (content_of s p.number p.offset)) newline in
     omega arith
 
--- so an answer of 0 says that nothing is left
-pub zero_quiet : (s os : List ℕ) → length (next_line s os) ≡ 0 → high os ≡ 0
-zero_quiet s os e =
-    on_zero (high os) (λ z. z)
-    (λ h. let a = line_some s (pair_of (top os) (high os)) in let b : length (change_line s (pair_of (top os) (high os))) ≡ 0 = rw (next_line_lem s os h) at e in absurd (omega arith))
+pub next_some : (s os : List ℕ) → 0 < high os → 0 < length (next_line s os)
+next_some s os h = rw (next_line_lem s os h) (line_some s (pair_of (top os) (high os)))
 
 -- ---- all changes are left
 
 module _ (s : List ℕ) (t : Tables) (w : Opened s t) where
-  pub chains_ask : (t ≡ tables_of s) × (t.refusal ≡ 0)
-  chains_ask = (w.tables, refusal_is s t w.tables ∙ (accepted s w.accepted).tables)
+  pub chains_ask : given t ≡ tables_read s
+  chains_ask = ap given w.tables ∙ sym (answer_given (tables_refusal s) (tables_of s) (accepted s w.accepted).tables)
 
   module _ (c : Chains) (r : Ready s c) where
     facilities_are : c.facilities ≡ t.facilities
@@ -181,13 +177,13 @@ module _ (s : List ℕ) (t : Tables) (w : Opened s t) (m : ℕ) (nodes : List �
   module _ (f o : ℕ) (ef : f ≡ top (drop m nodes)) (eo : o ≡ high (drop m nodes)) where
     -- no change is left, and none is taken
     pub none_left : o ≡ 0 → (nodes' : List ℕ) → Tree m nodes' → drop m nodes' ≡ offsets_after s 1 (drop m nodes) → (out : List ℕ) (e : Entry) → Timed s (drop m nodes) e
-        → ((0 ≡ length (next_line s (drop m nodes))) × (out ≡ onto (next_line s (drop m nodes)) out))
-        × (Waiting s t m nodes' × ((drop m nodes' ≡ offsets_after s 1 (drop m nodes)) × Timed s (drop m nodes') e))
+        → ((high (drop m nodes) ≡ 0) × (out ≡ onto (next_line s (drop m nodes)) out))
+        × ((Waiting s t m nodes' × (drop m nodes' ≡ offsets_after s 1 (drop m nodes))) × Timed s (drop m nodes') e)
     none_left z nodes' tree en out e v =
         let h : high (drop m nodes) ≡ 0 = sym eo ∙ z in
         let same : drop m nodes' ≡ drop m nodes = en ∙ quiet_after s (drop m nodes) h in
         let still : Waiting s t m nodes' = record { tree = tree; room = p.room; past = λ i k. rw same (p.past i k); each = rw same p.each } in
-        ((rw (quiet_line s (drop m nodes) h), rw (quiet_line s (drop m nodes) h)), (still, (en, rw same v)))
+        ((h, rw (quiet_line s (drop m nodes) h)), ((still, en), rw same v))
 
     module _ (some : o ≡ 0 → ⊥) where
       positive : 0 < high (drop m nodes)
@@ -212,21 +208,24 @@ module _ (s : List ℕ) (t : Tables) (w : Opened s t) (m : ℕ) (nodes : List �
       -- its line is put, and the others are left
       pub stepped : (nodes' : List ℕ) → Tree m nodes' → drop m nodes' ≡ offsets_after s 1 (drop m nodes) → (e : Entry) → Latest s o e.number e.position e.time
           → (r : ℕ) (out out' : List ℕ) → r ≡ length (change_line s (pair_of f o)) → out' ≡ onto (change_line s (pair_of f o)) out
-          → ((r ≡ length (next_line s (drop m nodes))) × (out' ≡ onto (next_line s (drop m nodes)) out))
-          × (Waiting s t m nodes' × ((drop m nodes' ≡ offsets_after s 1 (drop m nodes)) × Timed s (drop m nodes') e))
+          → (((0 < high (drop m nodes)) × (r ≡ length (next_line s (drop m nodes)))) × (out' ≡ onto (next_line s (drop m nodes)) out))
+          × ((Waiting s t m nodes' × (drop m nodes' ≡ offsets_after s 1 (drop m nodes))) × Timed s (drop m nodes') e)
       stepped nodes' tree en entry latest r out out' er eb =
           let e : drop m nodes' ≡ step s (drop m nodes) = en ∙ next_after s (drop m nodes) positive in
           let line : next_line s (drop m nodes) ≡ change_line s (pair_of f o) = rw (ef, eo) (next_line_lem s (drop m nodes) positive) in
           let b : top (drop m nodes) < t.facilities = rw ef at number_below in (
-            (rw line er, rw line eb),
+            ((positive, rw line er), rw line eb),
             (
-              record {
-                tree = tree;
-                room = p.room;
-                past = λ i k. rw e (step_other s (drop m nodes) i (λ z. omega arith) ∙ p.past i k);
-                each = rw e (each_step s (drop m nodes) positive p.each).1;
-              },
-              (en, rw e (timed_next s (drop m nodes) entry positive (rw eo at latest))),
+              (
+                record {
+                  tree = tree;
+                  room = p.room;
+                  past = λ i k. rw e (step_other s (drop m nodes) i (λ z. omega arith) ∙ p.past i k);
+                  each = rw e (each_step s (drop m nodes) positive p.each).1;
+                },
+                en,
+              ),
+              rw e (timed_next s (drop m nodes) entry positive (rw eo at latest)),
             ),
           )
 

@@ -10,7 +10,6 @@ use lib.Seq.{slice}
 use lib.IntN.{ℤ}
 use lib.Ieee.{Float}
 use Rattle.lxt_format.specs.Limits.{widest_facility}
-use Rattle.lxt_format.specs.Basics.{Answer, given, refused}
 use Rattle.lxt_format.specs.Sections.{facility_count, end_of}
 use Rattle.lxt_format.specs.Bytes.{to_zero}
 use Rattle.lxt_format.specs.Geometry.{is_alias, own_facts, geometry_allowed}
@@ -19,7 +18,7 @@ use Rattle.lxt_format.specs.BiasedTimes.{biased, unbiased}
 use Rattle.lxt_format.proofs.BiasedTimesLaws.{unbiased_biased}
 use Rattle.lxt_format.specs.Changes.{digits, data_at, data_size, change_end}
 use Rattle.lxt_format.specs.Values.{Content, bits, real, text, not_driven, content_by, content_of}
-use Rattle.lxt_format.specs.Answers.{Shown, bits_of, real_of, text_of, nothing, shown, value_says}
+use Rattle.lxt_format.specs.Answers.{Shown, bits_of, real_of, text_of, nothing, shown, value_shown}
 use Rattle.lxt_format.specs.Questions.{written, holding_bits}
 use Rattle.lxt_format.specs.declared.Value.{Value}
 use Rattle.lxt_format.specs.declared.Value.TheVariants as ofValue
@@ -100,30 +99,27 @@ module _ (s : List ℕ) (t : Tables) (w : Opened s t) (f : ℕ) (l : f < t.facil
 
 -- ---- what a value says
 
-abbrev said_width : Answer Shown → ℕ
-said_width (given (bits_of n)) = n
-said_width (given (real_of x b)) = b
-said_width (given (text_of start size)) = start
-said_width (given nothing) = 0
-said_width (refused n) = n
+abbrev said_width : Shown → ℕ
+said_width (bits_of n) = n
+said_width (real_of x b) = b
+said_width (text_of start size) = start
+said_width nothing = 0
 
-abbrev said_size : Answer Shown → ℕ
-said_size (given (bits_of n)) = 0
-said_size (given (real_of x b)) = 0
-said_size (given (text_of start size)) = size
-said_size (given nothing) = 0
-said_size (refused n) = 0
+abbrev said_size : Shown → ℕ
+said_size (bits_of n) = 0
+said_size (real_of x b) = 0
+said_size (text_of start size) = size
+said_size nothing = 0
 
-abbrev said_what : Answer Shown → ℕ
-said_what (given (bits_of n)) = 0
-said_what (given (real_of x b)) = 1
-said_what (given (text_of start size)) = 2
-said_what (given nothing) = 3
-said_what (refused n) = 4
+abbrev said_what : Shown → ℕ
+said_what (bits_of n) = 0
+said_what (real_of x b) = 1
+said_what (text_of start size) = 2
+said_what nothing = 3
 
 -- ---- a value in the buffer
 
-module _ (s : List ℕ) (C : Content) (v : Value) (ev : value_says v ≡ given (shown C)) (b : List ℕ) (at : ℕ) (ys : List ℕ) (ey : ys ≡ holding_bits C (part_from b at)) where
+module _ (s : List ℕ) (C : Content) (v : Value) (ev : value_shown v ≡ shown C) (b : List ℕ) (at : ℕ) (ys : List ℕ) (ey : ys ≡ holding_bits C (part_from b at)) where
   -- a buffer in which no symbols were put
   untouched : written C ≡ [] → part_back b at ys ≡ b
   unfolding holding_bits
@@ -135,7 +131,7 @@ module _ (s : List ℕ) (C : Content) (v : Value) (ev : value_says v ≡ given (
   unfolding value_text holding_bits written
   bits_put n e h = by C (rw e at ev) ey
     where
-      by : (C : Content) → given (bits_of n) ≡ given (shown C) → ys ≡ holding_bits C (part_from b at) → Put b at (value_text s C) (at + n) (part_back b at ys)
+      by : (C : Content) → bits_of n ≡ shown C → ys ≡ holding_bits C (part_from b at) → Put b at (value_text s C) (at + n) (part_back b at ys)
       by (bits y) q ey = let z : n ≡ length y = ap said_width q in record { place = rw z; holds = rw ey (part_put b at y); fits = h }
       by (real x c) q ey = absurd (let z : 0 ≡ 1 = ap said_what q in omega arith)
       by (text i k) q ey = absurd (let z : 0 ≡ 2 = ap said_what q in omega arith)
@@ -146,7 +142,7 @@ module _ (s : List ℕ) (C : Content) (v : Value) (ev : value_says v ≡ given (
   unfolding value_text written
   real_put x c e bytes eb q b' p = by C (rw e at ev) untouched
     where
-      by : (C : Content) → given (real_of x c) ≡ given (shown C) → (written C ≡ [] → part_back b at ys ≡ b) → Put b at (value_text s C) q b'
+      by : (C : Content) → real_of x c ≡ shown C → (written C ≡ [] → part_back b at ys ≡ b) → Put b at (value_text s C) q b'
       by (bits y) r u = absurd (let z : 1 ≡ 0 = ap said_what r in omega arith)
       by (real y d) r u = let z : c ≡ d = ap said_width r in rw (← z, ← eb) (rw (u refl) at p)
       by (text i k) r u = absurd (let z : 1 ≡ 2 = ap said_what r in omega arith)
@@ -157,7 +153,7 @@ module _ (s : List ℕ) (C : Content) (v : Value) (ev : value_says v ≡ given (
   unfolding value_text written
   text_put i k e q b' p = by C (rw e at ev) untouched
     where
-      by : (C : Content) → given (text_of i k) ≡ given (shown C) → (written C ≡ [] → part_back b at ys ≡ b) → Put b at (value_text s C) q b'
+      by : (C : Content) → text_of i k ≡ shown C → (written C ≡ [] → part_back b at ys ≡ b) → Put b at (value_text s C) q b'
       by (bits y) r u = absurd (let z : 2 ≡ 0 = ap said_what r in omega arith)
       by (real y d) r u = absurd (let z : 2 ≡ 1 = ap said_what r in omega arith)
       by (text j l) r u =
@@ -171,29 +167,20 @@ module _ (s : List ℕ) (C : Content) (v : Value) (ev : value_says v ≡ given (
   unfolding value_text written
   none_put e h = by C (rw e at ev) untouched
     where
-      by : (C : Content) → given nothing ≡ given (shown C) → (written C ≡ [] → part_back b at ys ≡ b) → Put b at (value_text s C) at (part_back b at ys)
+      by : (C : Content) → nothing ≡ shown C → (written C ≡ [] → part_back b at ys ≡ b) → Put b at (value_text s C) at (part_back b at ys)
       by (bits y) r u = absurd (let z : 3 ≡ 0 = ap said_what r in omega arith)
       by (real y d) r u = absurd (let z : 3 ≡ 1 = ap said_what r in omega arith)
       by (text j l) r u = absurd (let z : 3 ≡ 2 = ap said_what r in omega arith)
       by not_driven r u = record { place = sym (add-zero at); holds = u refl ∙ sym (placed_none b at); fits = h }
 
-  pub no_refusal : (n : ℕ) → v ≡ ofValue.Refused n → ⊥
-  no_refusal n e = by C (rw e at ev)
-    where
-      by : (C : Content) → refused n ≡ given (shown C) → ⊥
-      by (bits y) r = let z : ◌≡◌ {A = ℕ} 4 0 = ap said_what r in omega arith
-      by (real y d) r = let z : ◌≡◌ {A = ℕ} 4 1 = ap said_what r in omega arith
-      by (text j l) r = let z : ◌≡◌ {A = ℕ} 4 2 = ap said_what r in omega arith
-      by not_driven r = let z : ◌≡◌ {A = ℕ} 4 3 = ap said_what r in omega arith
-
 -- ---- how long a value is
 
-module _ (s : List ℕ) (end : ℕ) (order : List ℕ) (kind : Kind) (width o room : ℕ) (w : Readies s end order kind width o room) (v : Value) (ev : value_says v ≡ given (shown (content_by s kind width o))) where
+module _ (s : List ℕ) (end : ℕ) (order : List ℕ) (kind : Kind) (width o room : ℕ) (w : Readies s end order kind width o room) (v : Value) (ev : value_shown v ≡ shown (content_by s kind width o)) where
   pub bits_wide : (n : ℕ) → v ≡ ofValue.Bits n → n ≡ width
   unfolding content_by
   bits_wide n e = by kind refl (rw e at ev)
     where
-      by : (k : Kind) → kind ≡ k → given (bits_of n) ≡ given (shown (content_by s k width o)) → n ≡ width
+      by : (k : Kind) → kind ≡ k → bits_of n ≡ shown (content_by s k width o) → n ≡ width
       by Bits h q = ap said_width q ∙ symbols_long s width o (bits_drawn s end order kind width o room w h).0
       by Integer h q = ap said_width q ∙ symbols_long s width o (integer_drawn s end order kind width o room w h).0
       by Real h q = absurd (let z : 0 ≡ 1 = ap said_what q in omega arith)
@@ -203,7 +190,7 @@ module _ (s : List ℕ) (end : ℕ) (order : List ℕ) (kind : Kind) (width o ro
   unfolding content_by change_end data_size
   text_inside i k e = by kind refl (rw e at ev)
     where
-      by : (j : Kind) → kind ≡ j → given (text_of i k) ≡ given (shown (content_by s j width o)) → i + k ≤ length s
+      by : (j : Kind) → kind ≡ j → text_of i k ≡ shown (content_by s j width o) → i + k ≤ length s
       by Bits h q = absurd (let z : 2 ≡ 0 = ap said_what q in omega arith)
       by Integer h q = absurd (let z : 2 ≡ 0 = ap said_what q in omega arith)
       by Real h q = absurd (let z : 2 ≡ 1 = ap said_what q in omega arith)
@@ -221,9 +208,9 @@ module _ (s : List ℕ) (t : Tables) (w : Opened s t) (f : ℕ) (l : f < t.facil
   pub read_asks : Readies s t.end t.order x.kind x.width o (length (part_from b at))
   read_asks = let p = part_long b at in readies s t w f l o a x ex (length (part_from b at)) (omega arith)
 
-  module _ (v : Value) (ys : List ℕ) (ev : value_says v ≡ given (shown (content_by s x.kind x.width o))) (ey : ys ≡ holding_bits (content_by s x.kind x.width o) (part_from b at)) where
-    says : value_says v ≡ given (shown (content_of s f o))
-    says = ev ∙ ap (λ c. given (shown c)) (content_is s t w f l o a x ex)
+  module _ (v : Value) (ys : List ℕ) (ev : value_shown v ≡ shown (content_by s x.kind x.width o)) (ey : ys ≡ holding_bits (content_by s x.kind x.width o) (part_from b at)) where
+    says : value_shown v ≡ shown (content_of s f o)
+    says = ev ∙ ap shown (content_is s t w f l o a x ex)
 
     holds : ys ≡ holding_bits (content_of s f o) (part_from b at)
     holds = ey ∙ ap (λ c. holding_bits c (part_from b at)) (content_is s t w f l o a x ex)
@@ -261,6 +248,3 @@ module _ (s : List ℕ) (t : Tables) (w : Opened s t) (f : ℕ) (l : f < t.facil
     pub value_none : v ≡ ofValue.NotDriven
         → Put b at (value_text s (content_of s f o)) at (part_back b at ys) × (at ≤ at + (2 * length s + widest_facility))
     value_none e = (none_put s (content_of s f o) v says b at ys holds e (omega arith), omega arith)
-
-    pub value_refused : (n : ℕ) → v ≡ ofValue.Refused n → ⊥
-    value_refused n e = no_refusal s (content_of s f o) v says b at ys holds n e

@@ -1,6 +1,6 @@
 -- What is left to print, by the state that a call leaves to the next (`Printing` and `Rest` in src/printing.rt) and the memory lent with it:
 -- the name before the next one, the nodes of the tree of pending offsets, and the line that was put last.
-use Rattle.std.specs.Prelude.{ℕ, ◌+◌, ◌*◌, ◌-◌, ◌≤◌, ◌<◌, ◌≡◌, false, List, [], ◌++◌, length, take, drop, if◌then◌else◌}
+use Rattle.std.specs.Prelude.{ℕ, ◌+◌, ◌*◌, ◌-◌, ◌≤◌, ◌<◌, ◌≡◌, Option, Some, None, IfSome, OnSome, List, [], ◌++◌, length, take, drop}
 use Rattle.std.proofs.Math.Seq.{slice}
 use Rattle.lxt_format.specs.Basics.{range, joined}
 use Rattle.lxt_format.specs.Sections.{facility_count}
@@ -22,18 +22,21 @@ changes_left s r nodes = left s r.leaves (tree_of r nodes)
 -- the lines that are not put yet: those of the facilities left and of the changes left, and how many changes are printed in all
 unfoldable pub lines_left : List ℕ → Rest → List ℕ → List ℕ
 lines_left s r nodes =
-    if r.over then []
-    else joined (facility_line s) (range r.facility (facility_count s - r.facility))
+    joined (facility_line s) (range r.facility (facility_count s - r.facility))
     ++ joined (change_line s) (changes_left s r nodes)
     ++ done_line (r.count + length (changes_left s r nodes))
 
+-- none where the last line is put
+abbrev pub rest_left : List ℕ → Option Rest → List ℕ → List ℕ
+rest_left s None nodes = []
+rest_left s (Some r) nodes = lines_left s r nodes
+
 -- all that is left to print: the rest of the line that was put last, then those lines
 unfoldable pub left_text : List ℕ → Printing → List ℕ → List ℕ → List ℕ
-left_text s p nodes line = slice p.at p.size line ++ lines_left s p.rest nodes
+left_text s p nodes line = slice p.at p.size line ++ rest_left s p.rest nodes
 
 -- lines are left of an accepted file, and the memory holds what the next one is made from
 pub record Going (s : List ℕ) (r : Rest) (name nodes : List ℕ) : Type 0 where
-  pub more : r.over ≡ false
   pub opened : Opened s r.tables
   pub names : NamesAt s r.tables r.facility r.names name
   pub waiting : Waiting s r.tables r.leaves (tree_of r nodes)
@@ -46,8 +49,8 @@ Roomy s line = 2 * length s + 4200 ≤ length line
 
 -- a state that a call may go on from
 pub record Sound (s : List ℕ) (p : Printing) (name nodes line : List ℕ) : Type 0 where
-  pub going : p.rest.over ≡ false → Going s p.rest name nodes
-  pub room : p.rest.over ≡ false → Roomy s line
+  pub going : IfSome p.rest (λ r. Going s r name nodes)
+  pub room : OnSome p.rest (Roomy s line)
   pub start : p.at ≤ p.size
   pub fits : p.size ≤ length line
 
@@ -60,4 +63,4 @@ pub record AllLines (s : List ℕ) (r : Rest) (name nodes : List ℕ) : Type 0 w
 pub record NextLine (s : List ℕ) (r : Rest) (nodes : List ℕ) (p : Printing) (name' nodes' line' : List ℕ) : Type 0 where
   pub sound : Sound s p name' nodes' line'
   pub same : left_text s p nodes' line' ≡ lines_left s r nodes
-  pub less : length (lines_left s p.rest nodes') < length (lines_left s r nodes)
+  pub less : length (rest_left s p.rest nodes') < length (lines_left s r nodes)

@@ -1,7 +1,7 @@
 // The lines of all changes in walk order: each call puts one line and steps the pending offsets.
-ghost use Rattle.std.specs.Prelude.{◌≡◌, ◌+◌, ◌*◌, ◌≤◌, length, drop};
+ghost use Rattle.std.specs.Prelude.{◌≡◌, ◌+◌, ◌*◌, ◌≤◌, ◌<◌, length, drop, MatchOption};
 ghost use Rattle.lxt_format.specs.Columns.{onto};
-ghost use Rattle.lxt_format.specs.Walk.{offsets_after};
+ghost use Rattle.lxt_format.specs.Walk.{high, offsets_after};
 ghost use Rattle.lxt_chains.specs.Tree.{Blank};
 ghost use Rattle.lxt_print.specs.Placing.{Opened};
 ghost use Rattle.lxt_print.specs.Stepping.{Waiting, left, all_left, Last, Timed, next_line};
@@ -46,8 +46,8 @@ pub struct Line {
     pub entry: Entry,
 }
 
-// The line of the next change, put at the start of the buffer. Where no change is left its length is 0,
-// and nothing is changed.
+// The line of the next change, put at the start of the buffer. Where no change is left there is no line, and
+// nothing is changed.
 pub fn next(
     file: &[u8],
     t: Tables,
@@ -55,15 +55,16 @@ pub fn next(
     nodes: &mut [u32],
     m: usize,
     out: &mut [u8],
-) -> Line
+) -> Option<Line>
     requires { Opened file.now t × (Waiting file.now t m nodes.old × (Timed file.now (drop m nodes.old) entry × (2 * length file.now + 4200 ≤ length out.old))) }
-    ensures size_value { (result.size ≡ length (next_line file.now (drop m nodes.old))) × (out.new ≡ onto (next_line file.now (drop m nodes.old)) out.old) }
-    ensures waiting { Waiting file.now t m nodes.new × ((drop m nodes.new ≡ offsets_after file.now 1 (drop m nodes.old)) × Timed file.now (drop m nodes.new) result.entry) }
+    ensures line { MatchOption result (high (drop m nodes.old) ≡ 0) (λ l. (0 < high (drop m nodes.old)) × (l.size ≡ length (next_line file.now (drop m nodes.old)))) × (out.new ≡ onto (next_line file.now (drop m nodes.old)) out.old) }
+    ensures waiting { Waiting file.now t m nodes.new × (drop m nodes.new ≡ offsets_after file.now 1 (drop m nodes.old)) }
+    ensures timed { MatchOption result (Timed file.now (drop m nodes.new) entry) (λ l. Timed file.now (drop m nodes.new) l.entry) }
 {
     let taken = take_highest(file, nodes, m);
     let o = taken.offset;
     if o == 0 {
-        return Line { size: 0, entry };
+        return None;
     }
     let e = entries::down(
         file,
@@ -74,5 +75,5 @@ pub fn next(
         o as usize,
     );
     let size = lines::change(file, t, taken.number as u32, o, e.time, out);
-    Line { size, entry: e }
+    Some(Line { size, entry: e })
 }

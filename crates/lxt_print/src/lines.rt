@@ -6,24 +6,25 @@ ghost use Rattle.lxt_format.specs.Names.{name_of};
 ghost use Rattle.lxt_format.specs.Times.{time_of};
 ghost use Rattle.lxt_format.specs.BiasedTimes.{biased, unbiased};
 ghost use Rattle.lxt_format.specs.Values.{content_of};
+ghost use Rattle.lxt_format.specs.Answers.{refusal_number};
 ghost use Rattle.lxt_chains.specs.Pending.{pair_of, Allowed};
 ghost use Rattle.lxt_print.specs.Lines.{decimal, signed_decimal, space, facility_line, change_line, done_line, refused_line, kind_word, value_text};
 ghost use Rattle.lxt_print.specs.Placing.{Opened, NamesAt, Put, facility_head, facility_end, change_head};
 
 use crate::text::{put_bytes, put_decimal, put_hex};
-use lxt_format::{Kind, Value};
+use lxt_format::{Kind, Refusal, Value};
 use lxt_sections::times::BIAS;
 use lxt_tables::{Tables, aliases, geometry};
 use lxt_values::names::{NamesLeft, next};
 use lxt_values::value::read;
 
 // "refused" and the number.
-pub fn refused(k: u8, out: &mut [u8]) -> usize
+pub fn refused(refusal: Refusal, out: &mut [u8]) -> usize
     requires { 32 ≤ length out.old }
-    ensures { (result ≡ length (refused_line k)) × (out.new ≡ onto (refused_line k) out.old) }
+    ensures { (result ≡ length (refused_line (refusal_number refusal))) × (out.new ≡ onto (refused_line (refusal_number refusal)) out.old) }
 {
     let p = put_bytes(out, 0, b"refused ");
-    let q = put_decimal(out, p, u64::from(k));
+    let q = put_decimal(out, p, u64::from(refusal.number()));
     put_bytes(out, q, b"\n")
 }
 
@@ -163,13 +164,12 @@ fn put_value(file: &[u8], t: Tables, f: u32, o: u32, out: &mut [u8], at: usize) 
     );
     match value {
         Value::Bits { width } => at + width as usize,
-        Value::Real { number: _, bits } => put_hex(out, at, &bits.to_be_bytes()),
+        Value::Real { bits, .. } => put_hex(out, at, &bits.to_be_bytes()),
         Value::Text { start, length } => {
             let from = start as usize;
             put_hex(out, at, &file[from..from + length as usize])
         }
         Value::NotDriven => at,
-        Value::Refused(_) => at,
     }
 }
 

@@ -1,8 +1,10 @@
 // A trace printed into lent buffers of any length, one after the other. Each call leaves a state to the next,
 // with the memory lent for it: the name before the next one, the tree of pending offsets, and the line put last.
-ghost use Rattle.std.specs.Prelude.{◌≡◌, true, ◌*◌, ◌-◌, ◌≤◌, ◌<◌, min, length, take, drop, replicate};
+ghost use Rattle.std.specs.Prelude.{◌≡◌, ◌*◌, ◌-◌, ◌≤◌, ◌<◌, min, length, take, drop, replicate};
 ghost use Rattle.lxt_format.specs.Limits.{longest_name, most_facilities};
-ghost use Rattle.lxt_format.specs.Judge.{file_refusal};
+ghost use Rattle.lxt_format.specs.Basics.{answer};
+ghost use Rattle.lxt_format.specs.Answers.{says};
+ghost use Rattle.lxt_tables.specs.Stage.{tables_of};
 ghost use Rattle.lxt_chains.specs.Tree.{Room};
 ghost use Rattle.lxt_print.specs.Lines.{print_refusal};
 ghost use Rattle.lxt_print.specs.Placing.{Opened, Put};
@@ -12,8 +14,9 @@ ghost use Rattle.lxt_print.specs.Calls.{Lent, Begins, Fills};
 
 use crate::text::put_bytes;
 use crate::{changes, lines};
-use lxt_chains::{tree, whole};
-use lxt_format::{File, NameCursor, Summary};
+use lxt_chains::tree;
+use lxt_chains::whole::judged;
+use lxt_format::{File, NameCursor, Refusal, Summary};
 use lxt_tables::Tables;
 use lxt_values::entries::Entry;
 use lxt_values::names::NamesLeft;
@@ -30,16 +33,15 @@ pub struct Rest {
     pub entry: Entry,
     // how many changes are put
     pub count: u32,
-    // the last line is put
-    pub over: bool,
 }
 
-// What is left to print: the bytes from `at` up to `size` of the line that was put last, and the rest.
+// What is left to print: the bytes from `at` up to `size` of the line that was put last, and the rest, if that
+// was not the last line.
 #[derive(Clone, Copy)]
 pub struct Printing {
     pub at: usize,
     pub size: usize,
-    pub rest: Rest,
+    pub rest: Option<Rest>,
 }
 
 impl Printing {
@@ -60,38 +62,14 @@ pub struct Filled {
     pub left: Printing,
 }
 
-// What is left where no line is.
-fn over(t: Tables) -> Rest
-    ensures { result.over ≡ true }
-{
-    Rest {
-        tables: t,
-        facility: 0,
-        names: NamesLeft {
-            left: 0,
-            at: 0,
-            before: 0,
-        },
-        leaves: 0,
-        entry: Entry {
-            number: 0,
-            position: 0,
-            time: 0,
-        },
-        count: 0,
-        over: true,
-    }
-}
-
-// The refusal k of a file, or 1 where the file is too long to be printed.
-fn refusal(file: &[u8], k: u8) -> u8
-    requires { k ≡ file_refusal file.now }
-    ensures { result ≡ print_refusal file.now }
+// The tables of a file that is printed: one that is accepted, and not too long.
+fn printable(file: &[u8]) -> Result<Tables, Refusal>
+    ensures { says result ≡ answer (print_refusal file.now) (tables_of file.now) }
 {
     if File::LONGEST_PRINTED < file.len() {
-        return 1;
+        return Err(Refusal::Length);
     }
-    k
+    Ok(judged(file)?.tables)
 }
 
 // A tree from which all changes are left.
@@ -122,7 +100,6 @@ fn all_lines(file: &[u8], t: Tables, name: &[u8], nodes: &mut [u32]) -> Rest
         leaves: m,
         entry,
         count: 0,
-        over: false,
     }
 }
 
@@ -131,23 +108,17 @@ pub fn begin(file: &[u8], name: &[u8], nodes: &mut [u32], line: &mut [u8]) -> Pr
     requires { Lent name.now nodes.old line.old }
     ensures { Begins file.now result name.now nodes.new line.new }
 {
-    let x = whole::judged(file);
-    let t = x.tables;
-    let k = refusal(file, x.refusal);
-    if k != 0 {
-        let size = lines::refused(k, line);
-        let rest = over(t);
-        return Printing {
+    match printable(file) {
+        Ok(t) => Printing {
             at: 0,
-            size: size,
-            rest: rest,
-        };
-    }
-    let rest = all_lines(file, t, name, nodes);
-    Printing {
-        at: 0,
-        size: 0,
-        rest: rest,
+            size: 0,
+            rest: Some(all_lines(file, t, name, nodes)),
+        },
+        Err(refusal) => Printing {
+            at: 0,
+            size: lines::refused(refusal, line),
+            rest: None,
+        },
     }
 }
 
@@ -168,7 +139,7 @@ fn next_facility(
     Printing {
         at: 0,
         size: put.size,
-        rest: r,
+        rest: Some(r),
     }
 }
 
@@ -184,22 +155,19 @@ fn next_change(
     ensures { NextLine file.now r nodes.old result name.now nodes.new line.new }
 {
     let m = r.leaves;
-    let put = changes::next(file, r.tables, r.entry, &mut nodes[..2 * m], m, line);
-    if put.size == 0 {
-        let last = lines::done(r.count, line);
-        r.over = true;
+    let Some(put) = changes::next(file, r.tables, r.entry, &mut nodes[..2 * m], m, line) else {
         return Printing {
             at: 0,
-            size: last,
-            rest: r,
+            size: lines::done(r.count, line),
+            rest: None,
         };
-    }
+    };
     r.entry = put.entry;
     r.count += 1;
     Printing {
         at: 0,
         size: put.size,
-        rest: r,
+        rest: Some(r),
     }
 }
 
@@ -241,13 +209,20 @@ pub fn fill(
         let p = put_part(line, left.at, left.size, out, put);
         left.at += p - put;
         put = p;
-        if (put == out.len()) | left.rest.over {
+        let Some(rest) = left.rest else {
             return Filled {
                 size: put,
-                done: (left.at == left.size) & left.rest.over,
+                done: left.at == left.size,
+                left,
+            };
+        };
+        if put == out.len() {
+            return Filled {
+                size: put,
+                done: false,
                 left,
             };
         }
-        left = next_line(file, left.rest, name, nodes, line);
+        left = next_line(file, rest, name, nodes, line);
     }
 }

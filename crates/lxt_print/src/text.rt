@@ -54,9 +54,9 @@ pub fn put_hex(out: &mut [u8], at: usize, bytes: &[u8]) -> usize
     ensures { Put out.old at (hex_bytes bytes.now) result out.new × (result ≡ at + 2 * length bytes.now) }
 {
     let mut p = at;
-    for b in bytes {
-        out[p] = hex_digit(*b / 16);
-        out[p + 1] = hex_digit(*b % 16);
+    for &b in bytes {
+        out[p] = hex_digit(b / 16);
+        out[p + 1] = hex_digit(b % 16);
         p += 2;
     }
     p

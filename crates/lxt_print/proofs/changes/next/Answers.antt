@@ -10,7 +10,7 @@ returns-then-o-eq0 c =
     let pre = c.requires in
     let taken = c.take_highest-taken.ensures in
     let all = none_left _ _ pre.0 _ _ pre.1.0 _ _ taken.number_value.0 taken.number_value.1.0 c.if-o-eq0.true _ taken.tree.0 taken.tree.1 _ _ pre.1.1.0 in
-    record { size_value = all.0; waiting = all.1 }
+    record { line = all.0; waiting = all.1.0; timed = all.1.1 }
 
 pub down-e-requires : goal.down-e-requires
 down-e-requires c =
@@ -39,4 +39,4 @@ returns c =
     let put = c.change-size.ensures in
     let down = c.down-e.ensures in
     let all = stepped _ _ pre.0 _ _ pre.1.0 _ _ taken.number_value.0 taken.number_value.1.0 c.if-o-eq0.false _ taken.tree.0 taken.tree.1 _ down.0 _ _ _ put.0 put.1 in
-    record { size_value = all.0; waiting = all.1 }
+    record { line = all.0; waiting = all.1.0; timed = all.1.1 }

@@ -1,7 +1,7 @@
 use mathlib.Core.Path.{◌∙◌}
 use native.Mathlib.Omega.{arith}
 use Rattle.lxt_print.proofs.TextLaws.{word_bytes}
-use Rattle.lxt_print.proofs.ValueLaws.{facts_asks, read_asks, text_part_lem, value_bits, value_real, value_text_lem, value_none, value_refused}
+use Rattle.lxt_print.proofs.ValueLaws.{facts_asks, read_asks, text_part_lem, value_bits, value_real, value_text_lem, value_none}
 use Rattle.lxt_print.proofs.lines.put_value.Goals as goal
 
 pub own_facts-facts-requires : goal.own_facts-facts-requires
@@ -29,6 +29,3 @@ returns-in-Text c = value_text_lem _ _ c.requires.0 _ c.requires.1.0 _ c.require
 
 pub returns-in-NotDriven : goal.returns-in-NotDriven
 returns-in-NotDriven c = value_none _ _ c.requires.0 _ c.requires.1.0 _ c.requires.1.1.0 _ c.own_facts-facts.ensures _ _ c.requires.1.1.1 _ _ c.read-value.ensures.0 c.read-value.ensures.1 c.in-NotDriven.is
-
-pub returns-in-Refused : goal.returns-in-Refused
-returns-in-Refused c = absurd (value_refused _ _ c.requires.0 _ c.requires.1.0 _ c.requires.1.1.0 _ c.own_facts-facts.ensures c.args.out.now _ c.requires.1.1.1 _ _ c.read-value.ensures.0 c.read-value.ensures.1 _ c.in-Refused.is)

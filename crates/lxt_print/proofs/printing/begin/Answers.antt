@@ -1,11 +1,11 @@
 use Rattle.lxt_print.proofs.BeginLaws.{refusal_left, lines_ask, lines_left_lem}
 use Rattle.lxt_print.proofs.printing.begin.Goals as goal
 
-pub returns-then-k-ne0 : goal.returns-then-k-ne0
-returns-then-k-ne0 c = search refusal_left
+pub all_lines-requires : goal.all_lines-requires
+all_lines-requires c = lines_ask _ _ _ _ c.requires _ (rw c.in-Ok.is at c.printable.ensures)
 
-pub all_lines-rest-requires : goal.all_lines-rest-requires
-all_lines-rest-requires c = lines_ask _ _ _ _ c.requires _ c.refusal-k.ensures c.if-k-ne0.false _ c.judged-x.ensures.tables
+pub returns-in-Ok : goal.returns-in-Ok
+returns-in-Ok c = lines_left_lem _ _ _ _ c.requires _ (rw c.in-Ok.is at c.printable.ensures) _ _ c.all_lines.ensures
 
-pub returns : goal.returns
-returns c = search lines_left_lem
+pub returns-in-Err : goal.returns-in-Err
+returns-in-Err c = let line = c.refused.ensures in refusal_left _ _ _ _ c.requires _ (rw c.in-Err.is at c.printable.ensures) _ _ line.0 line.1
