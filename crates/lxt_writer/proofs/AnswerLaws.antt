@@ -1,52 +1,51 @@
 -- Laws of what a call of the writer answers, and of the buffer after it.
 use Prim.Native.Nat.{ℕ, ◌≤◌, ◌<◌}
 use native.Mathlib.Omega.{arith}
-use mathlib.Core.Path.{◌≡◌, sym, ap, ◌∙◌}
-use mathlib.Core.Bool.{true, false, not}
+use mathlib.Core.Path.{◌≡◌, ap, ◌∙◌}
+use mathlib.Core.Bool.{false}
 use mathlib.Core.List.{List}
 use lib.ListN.{length}
 use lib.IntN.{ℤ}
-use borrow.Author.Tests.{le-leb, lt-leb, not-true, not-false}
+use borrow.Author.Tests.{le-leb, lt-leb}
+use Rattle.std.specs.Prelude.{Option, Some, None, Result, Err, ok_or}
+use Rattle.std.specs.Result.{IsErrAnd}
 use Rattle.lxt_format.specs.Basics.{given, refused}
+use Rattle.lxt_format.specs.Answers.{says}
+use Rattle.lxt_format.specs.declared.refusal.Refusal.{Refusal}
+use Rattle.lxt_format.specs.declared.refusal.Refusal.TheVariants.{Input}
+use Rattle.lxt_format.proofs.AnswerLaws.{says_passed}
 use Rattle.lxt_format.specs.Columns.{onto}
 use Rattle.lxt_written.specs.Input.{trace_of}
 use Rattle.lxt_written.specs.WrittenFile.{file_of}
 use Rattle.lxt_written.specs.Writing.{input_allowed, write_refusal, write_asked, write_buffer}
 use Rattle.lxt_layout.specs.declared.Places.{Places}
-use Rattle.lxt_layout.specs.Layout.{PlacesFor, Bounded}
+use Rattle.lxt_layout.specs.Layout.{PlacesFor}
 use Rattle.lxt_layout.proofs.WholeLaws.{file_long}
 use Rattle.lxt_writer.specs.declared.plan.Plan.{Plan}
-use Rattle.lxt_writer.specs.Plan.{Planned, FileAsked}
+use Rattle.lxt_writer.specs.Plan.{PlanFound, Planned, FileAsked}
 
-module _ (facilities : List (List ℕ)) (names : List ℕ) (changes : List (List ℕ)) (values : List ℕ) (initial : ℕ) (timescale : ℤ)
-    (out : List ℕ) (r : Plan) (planned : Planned facilities names changes values initial timescale r) where
-  -- 24: the input is not allowed
-  pub answers_24 : not r.sound ≡ true
-      → (refused 24 ≡ write_asked facilities names changes values initial timescale (length out))
+module _ (facilities : List (List ℕ)) (names : List ℕ) (changes : List (List ℕ)) (values : List ℕ) (initial : ℕ) (timescale : ℤ) (out : List ℕ) where
+  -- 24: there is no plan, since the input is not allowed
+  pub answers_24 : (o : Option Plan) → Planned facilities names changes values initial timescale o → o ≡ None
+      → (r : Result ℕ Refusal) (e : Refusal) → IsErrAnd r (λ x. x ≡ e) → ◌≡◌ {A = Result Plan Refusal} (Err e) (ok_or o Input)
+      → (says r ≡ write_asked facilities names changes values initial timescale (length out))
       × (out ≡ write_buffer facilities names changes values initial timescale out)
   unfolding write_asked write_buffer write_refusal
-  answers_24 n =
-      let no : input_allowed facilities names changes values initial timescale ≡ false = sym planned.sound ∙ not-true r.sound n in
-      (rw no, rw no)
+  answers_24 o plan n r e h v =
+      let no : input_allowed facilities names changes values initial timescale ≡ false = rw n at plan in
+      let w : ◌≡◌ {A = Result Plan Refusal} (Err e) (Err Input) = rw n at v in
+      let is : e ≡ Input = cc in
+      (says_passed r e h ∙ rw (is, no), rw no)
 
-  module _ (yes : not r.sound ≡ false) where
-    -- the input is allowed
-    sound : r.sound ≡ true
-    sound = not-false r.sound yes
+  -- a plan that is there
+  pub plan_there : (o : Option Plan) → Planned facilities names changes values initial timescale o → (r : Plan) → o ≡ Some r
+      → PlanFound facilities names changes values initial timescale r
+  plan_there o plan r e = rw e at plan
 
-    allowed : input_allowed facilities names changes values initial timescale ≡ true
-    allowed = sym planned.sound ∙ sound
-
-    -- the sizes and the memory of the names are small enough for the code's numbers
-    pub sizes_small : Bounded r.sizes
-    sizes_small = planned.bounded sound
-
-    pub memory_small : r.memory < 4294967296
-    memory_small = planned.memory_most sound
-
+  module _ (r : Plan) (plan : PlanFound facilities names changes values initial timescale r) where
     -- the places say how long the file is
     long : (p : Places) → PlacesFor r.sizes p → p.length ≡ length (file_of (trace_of facilities names changes values initial timescale))
-    long p pf = file_long (trace_of facilities names changes values initial timescale) r.sizes p (planned.sizes sound) pf
+    long p pf = file_long (trace_of facilities names changes values initial timescale) r.sizes p plan.sizes pf
 
     module _ (p : Places) (pf : PlacesFor r.sizes p) where
       -- 25: there is no room
@@ -57,17 +56,17 @@ module _ (facilities : List (List ℕ)) (names : List ℕ) (changes : List (List
       answers_25 h =
           let l = long p pf in
           let no = lt-leb (length (file_of (trace_of facilities names changes values initial timescale))) (length out) (omega arith) in
-          (rw (allowed, no), rw (allowed, no))
+          (rw (plan.allowed, no), rw (plan.allowed, no))
 
       module _ (room : p.length ≤ length out) where
         -- the file can be put
         pub file_asked : FileAsked facilities names changes values initial timescale r.sizes r.memory out
         file_asked =
             record {
-              allowed = allowed;
-              sizes = planned.sizes sound;
-              bounded = sizes_small;
-              memory_is = planned.memory sound;
+              allowed = plan.allowed;
+              sizes = plan.sizes;
+              bounded = plan.bounded;
+              memory_is = plan.memory;
               room = λ q qf. let l = long p pf in let m = long q qf in omega arith;
             }
 
@@ -79,4 +78,4 @@ module _ (facilities : List (List ℕ)) (names : List ℕ) (changes : List (List
         answers_written out' e =
             let l = long p pf in
             let fits = le-leb (length (file_of (trace_of facilities names changes values initial timescale))) (length out) (omega arith) in
-            (rw (allowed, fits) (ap given l), rw (allowed, fits) e)
+            (rw (plan.allowed, fits) (ap given l), rw (plan.allowed, fits) e)

@@ -1,5 +1,5 @@
 -- Laws of the whole input: when it is allowed, and the sizes of its file.
-use Prim.Native.Nat.{ℕ, zero, suc, ◌+◌, ◌≤◌}
+use Prim.Native.Nat.{ℕ, zero, suc, ◌+◌, ◌≤◌, ◌<◌}
 use native.Mathlib.Omega.{arith}
 use mathlib.Core.Path.{◌≡◌, refl, sym, ap, ◌∙◌}
 use mathlib.Core.Bool.{Bool, true, false, ◌&&◌, true≢false, and-false}
@@ -8,7 +8,7 @@ use lib.ListN.{length, get_or, take, replicate, length-append, length-map, lengt
 use lib.Seq.{length-take-le}
 use lib.IntN.{ℤ}
 use lib.Dec.{leb}
-use borrow.Author.Tests.{leb-true, le-leb}
+use borrow.Author.Tests.{leb-true, le-leb, lt-leb}
 use Rattle.lxt_format.specs.Limits.{longest_file, most_facilities}
 use Rattle.lxt_format.specs.Basics.{all, joined}
 use Rattle.lxt_format.specs.BasicsLaws.{on_test, and_both, both_and}
@@ -25,9 +25,8 @@ use Rattle.lxt_layout.proofs.WholeLaws.{file_long}
 use Rattle.lxt_facilities.specs.Rows.{facilities_allowed, FacilitiesFound}
 use Rattle.lxt_facilities.specs.declared.names.Measured.{Measured as Facilities}
 use Rattle.lxt_writer.specs.declared.changes.Measured.{Measured as Changes}
-use Rattle.lxt_writer.specs.declared.plan.Plan.{Plan}
 use Rattle.lxt_writer.specs.Changes.{nameless, Widths, lay_rows, end_from, sound_from, Fresh, ChangesFound}
-use Rattle.lxt_writer.specs.Plan.{Planned}
+use Rattle.lxt_writer.specs.Plan.{PlanFound}
 
 -- ---- a table of zeros
 
@@ -189,19 +188,6 @@ module _ (facilities : List (List ℕ)) (names : List ℕ) (changes : List (List
 
   -- ---- where something is not allowed
 
-  -- then the plan says no
-  pub planned_refused : (r : Plan) → r.sound ≡ false → input_allowed facilities names changes values initial timescale ≡ false
-      → Planned facilities names changes values initial timescale r
-  planned_refused r n e =
-      let no : r.sound ≡ true → ⊥ = λ y. true≢false (sym y ∙ n) in
-      record {
-        sound = n ∙ sym e;
-        sizes = λ y. absurd (no y);
-        bounded = λ y. absurd (no y);
-        memory = λ y. absurd (no y);
-        memory_most = λ y. absurd (no y);
-      }
-
   -- each of the three parts that are found first refuses the whole
   pub values_refused : (b : Bool) → b ≡ values_allowed → b ≡ false → input_allowed facilities names changes values initial timescale ≡ false
   values_refused b e n = input_parts ∙ rw (sym e ∙ n)
@@ -259,19 +245,26 @@ module _ (facilities : List (List ℕ)) (names : List ℕ) (changes : List (List
             }
 
         -- the input is allowed where the file is short enough
-        pub planned : (p : Places) → PlacesFor sizes p
-            → Planned facilities names changes values initial timescale (record { sound = leb p.length longest_file; sizes = sizes; memory = f.memory })
-        unfolding names_of
-        planned p pf =
-            let n = count_small in
-            let cs : changes_sound ≡ true = sound_parts cm.sound in
-            record {
-              sound = sym (input_parts ∙ rw (sym vb ∙ vn, fm.sound, cs, ← file_long trace sizes p sizes_measure pf));
-              sizes = λ y. sizes_measure;
-              bounded = λ y. sizes_bounded;
-              memory = λ y. fm.memory;
-              memory_most = λ y. omega (arith, fm.memory_most);
-            }
+        module _ (p : Places) (pf : PlacesFor sizes p) where
+          pub length_refused : longest_file < p.length → input_allowed facilities names changes values initial timescale ≡ false
+          length_refused h =
+              let l = file_long trace sizes p sizes_measure pf in
+              let no = lt-leb (length (file_of trace)) longest_file (omega arith) in
+              input_parts ∙ rw (sym vb ∙ vn, fm.sound, sound_parts cm.sound, no)
+
+          pub plan_found : p.length ≤ longest_file
+              → PlanFound facilities names changes values initial timescale (record { sizes = sizes; memory = f.memory })
+          unfolding names_of
+          plan_found h =
+              let l = file_long trace sizes p sizes_measure pf in
+              let fits = le-leb (length (file_of trace)) longest_file (omega arith) in
+              record {
+                allowed = input_parts ∙ rw (sym vb ∙ vn, fm.sound, sound_parts cm.sound, fits);
+                sizes = sizes_measure;
+                bounded = sizes_bounded;
+                memory = fm.memory;
+                memory_most = omega (arith, fm.memory_most);
+              }
 
   -- ---- an input that is allowed
 

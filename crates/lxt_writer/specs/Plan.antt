@@ -1,5 +1,5 @@
 -- What the functions over the whole input answer and ask.
-use Rattle.std.specs.Prelude.{ℕ, ◌+◌, ◌*◌, ◌-◌, ◌≤◌, ◌<◌, ◌≡◌, Bool, true, List, [], ◌∷◌, ◌++◌, map, length, get_or, ℤ}
+use Rattle.std.specs.Prelude.{ℕ, ◌+◌, ◌*◌, ◌-◌, ◌≤◌, ◌<◌, ◌≡◌, Bool, true, false, List, [], ◌∷◌, ◌++◌, map, length, get_or, ℤ, Option, Some, None}
 use Rattle.lxt_format.specs.Limits.{most_facilities}
 use Rattle.lxt_format.specs.Basics.{joined}
 use Rattle.lxt_format.specs.Names.{memory_of}
@@ -14,12 +14,18 @@ use Rattle.lxt_writer.specs.declared.plan.Plan.{Plan}
 
 -- ---- the first pass
 
-pub record Planned (facilities : List (List ℕ)) (names : List ℕ) (changes : List (List ℕ)) (values : List ℕ) (initial : ℕ) (timescale : ℤ) (r : Plan) : Type 0 where
-  pub sound : r.sound ≡ input_allowed facilities names changes values initial timescale
-  pub sizes : r.sound ≡ true → Measures (trace_of facilities names changes values initial timescale) r.sizes
-  pub bounded : r.sound ≡ true → Bounded r.sizes
-  pub memory : r.sound ≡ true → r.memory ≡ memory_of (names_of (trace_of facilities names changes values initial timescale))
-  pub memory_most : r.sound ≡ true → r.memory < 4294967296
+-- of an input that is allowed: the sizes and the memory of its file
+pub record PlanFound (facilities : List (List ℕ)) (names : List ℕ) (changes : List (List ℕ)) (values : List ℕ) (initial : ℕ) (timescale : ℤ) (r : Plan) : Type 0 where
+  pub allowed : input_allowed facilities names changes values initial timescale ≡ true
+  pub sizes : Measures (trace_of facilities names changes values initial timescale) r.sizes
+  pub bounded : Bounded r.sizes
+  pub memory : r.memory ≡ memory_of (names_of (trace_of facilities names changes values initial timescale))
+  pub memory_most : r.memory < 4294967296
+
+-- of others it finds nothing
+abbrev pub Planned : List (List ℕ) → List ℕ → List (List ℕ) → List ℕ → ℕ → ℤ → Option Plan → Type 0
+Planned facilities names changes values initial timescale (Some r) = PlanFound facilities names changes values initial timescale r
+Planned facilities names changes values initial timescale None = input_allowed facilities names changes values initial timescale ≡ false
 
 -- ---- the second pass
 

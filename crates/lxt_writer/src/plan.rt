@@ -1,5 +1,5 @@
 // The first pass: whether the input is allowed, and the sizes of what is to be written.
-ghost use Rattle.std.specs.Prelude.{◌≡◌, false, ◌&&◌, ◌≤◌, length, leb};
+ghost use Rattle.std.specs.Prelude.{◌≡◌, ◌&&◌, ◌≤◌, length, leb};
 ghost use Rattle.lxt_format.specs.Limits.{most_facilities};
 ghost use Rattle.lxt_format.specs.Sections.{timescale_allowed};
 ghost use Rattle.lxt_writer.specs.Changes.{Widths, ChangesMeasured};
@@ -10,30 +10,11 @@ use lxt_facilities::names;
 use lxt_format::{File, Summary};
 use lxt_layout::Sizes;
 
-// What the first pass finds: whether the input is allowed, and then the sizes of the file's parts and the
-// memory M of the names.
+// What the first pass finds where all is allowed: the sizes of the file's parts and the memory M of the names.
 #[derive(Clone, Copy)]
 pub struct Plan {
-    pub sound: bool,
     pub sizes: Sizes,
     pub memory: usize,
-}
-
-fn refused() -> Plan
-    ensures { result.sound ≡ false }
-{
-    let sizes = Sizes {
-        facilities: 0,
-        names: 0,
-        changes: 0,
-        entries: 0,
-        real: false,
-    };
-    Plan {
-        sound: false,
-        sizes,
-        memory: 0,
-    }
 }
 
 // The number of facilities, the timescale and the code of the initial symbol.
@@ -63,19 +44,15 @@ pub fn plan_for(
     values: &[u8],
     initial: u8,
     timescale: i8,
-) -> Plan
+) -> Option<Plan>
     ensures { Planned facilities.now names.now changes.now values.now initial timescale result }
 {
     let n = facilities.len();
     if !values_allowed(n, initial, timescale) {
-        return refused();
+        return None;
     }
-    let Some(f) = names::measure(facilities, names) else {
-        return refused();
-    };
-    let Some(c) = measure_changes(facilities, changes, values) else {
-        return refused();
-    };
+    let f = names::measure(facilities, names)?;
+    let c = measure_changes(facilities, changes, values)?;
     let sizes = Sizes {
         facilities: n,
         names: f.size,
@@ -84,9 +61,11 @@ pub fn plan_for(
         real: f.real,
     };
     let places = lxt_layout::placed_by(sizes);
-    Plan {
-        sound: places.length <= File::LONGEST,
+    if places.length > File::LONGEST {
+        return None;
+    }
+    Some(Plan {
         sizes,
         memory: f.memory,
-    }
+    })
 }

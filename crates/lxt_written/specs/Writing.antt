@@ -1,7 +1,7 @@
 -- Paper 02, Ask 5: the refusals 24 and 25, and what a call of the writer answers and leaves in the lent buffer.
 use Rattle.std.specs.Prelude.{ℕ, Bool, true, not, ◌&&◌, List, [], ◌∷◌, length, ℤ, ltb, leb, eqb}
 use Rattle.lxt_format.specs.Limits.{longest_file, most_facilities, longest_name, widest_facility}
-use Rattle.lxt_format.specs.Basics.{◌unless◌, ◌or_else◌, Answer, given, refused, answer, lent_after, all, any}
+use Rattle.lxt_format.specs.Basics.{◌unless◌, ◌or_else◌, Answer, answer, lent_after, all, any}
 use Rattle.lxt_format.specs.Sections.{timescale_allowed}
 use Rattle.lxt_format.specs.Geometry.{facts_by}
 use Rattle.lxt_format.specs.Values.{symbols}
@@ -9,8 +9,6 @@ use Rattle.lxt_format.specs.Columns.{onto}
 use Rattle.lxt_format.specs.declared.Kind.{Kind}
 use Rattle.lxt_format.specs.declared.Kind.TheVariants.{Bits, Integer, Real, Text}
 use Rattle.lxt_format.specs.declared.Facts.{Facts}
-use Rattle.lxt_written.specs.declared.WriteAnswer.{WriteAnswer}
-use Rattle.lxt_written.specs.declared.WriteAnswer.TheVariants.{Written, Refused}
 use Rattle.lxt_written.specs.Input.{Facility, Change, Trace, trace_of, rows_allowed}
 use Rattle.lxt_written.specs.WrittenChanges.{numbered}
 use Rattle.lxt_written.specs.WrittenFile.{file_of}
@@ -72,11 +70,6 @@ input_allowed facilities names changes values initial timescale =
     && leb (length (file_of (trace_of facilities names changes values initial timescale))) longest_file)
 
 -- ---- the call
-
--- the number or the length that an answer stands for
-abbrev pub write_says : WriteAnswer → Answer ℕ
-write_says (Written length) = given length
-write_says (Refused n) = refused n
 
 -- "Refusal 24, tested first ..; 25: no room for the exact length"
 unfoldable pub write_refusal : List (List ℕ) → List ℕ → List (List ℕ) → List ℕ → ℕ → ℤ → ℕ → ℕ
