@@ -61,11 +61,8 @@ pub fn next(
     ensures waiting { Waiting file.now t m nodes.new × (drop m nodes.new ≡ offsets_after file.now 1 (drop m nodes.old)) }
     ensures timed { MatchOption result (Timed file.now (drop m nodes.new) entry) (λ l. Timed file.now (drop m nodes.new) l.entry) }
 {
-    let taken = take_highest(file, nodes, m);
+    let taken = take_highest(file, nodes, m)?;
     let o = taken.offset;
-    if o == 0 {
-        return None;
-    }
     let e = entries::down(
         file,
         t.times as usize,
