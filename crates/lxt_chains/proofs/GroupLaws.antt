@@ -1,5 +1,5 @@
 -- Groups by windows: what is tested of a change, and what a slot holds after a group has come there.
-use Prim.Native.Nat.{ℕ, ◌+◌, ◌*◌, ◌-◌, ◌/◌, ◌%◌, ◌<◌, max}
+use Prim.Native.Nat.{ℕ, suc, ◌+◌, ◌*◌, ◌-◌, ◌/◌, ◌%◌, ◌<◌, max}
 use native.Mathlib.Omega.{arith}
 use mathlib.Core.Path.{◌≡◌, refl, ◌∙◌}
 use mathlib.Core.List.{List}
@@ -26,27 +26,27 @@ module _ (base f : ℕ) (os slots widths kinds : List ℕ) (w : Settles base f o
       by (Entering.put k free _ same) = Settling.put k free refl same refl refl
       by (Entering.taken k q n _) = absurd (n z)
 
-  module _ (n : held ≡ 0 → ⊥) where
+  module _ (g : ℕ) (eg : held ≡ suc g) where
     -- the slot is that of a group
-    pub holder : held - 1 < length os
+    pub holder : g < length os
     holder = by e
       where
-        by : Entering base f (get_or os f 0) slots held slots' → held - 1 < length os
-        by (Entering.outside q z _) = absurd (n z)
-        by (Entering.put k free z _) = absurd (n z)
-        by (Entering.taken k q _ _) = w.numbers (get_or os f 0 - base) (held - 1) (q ∙ omega arith)
+        by : Entering base f (get_or os f 0) slots held slots' → g < length os
+        by (Entering.outside q z _) = absurd (omega arith)
+        by (Entering.put k free z _) = absurd (omega arith)
+        by (Entering.taken k q _ _) = w.numbers (get_or os f 0 - base) (g) (q ∙ eg)
 
-    pub holder_width : held - 1 < length widths
+    pub holder_width : g < length widths
     holder_width = let a = holder in omega (arith, w.widths_long)
 
-    pub holder_kinds : held - 1 < length kinds
+    pub holder_kinds : g < length kinds
     holder_kinds = let a = holder in omega (arith, w.kinds_long)
 
-    pub settle_added : (v k : ℕ) → v ≡ max (get_or widths (held - 1) 0) (get_or widths f 0) → k ≡ both_kinds (get_or kinds (held - 1) 0) (get_or kinds f 0)
-        → Settling base f os slots widths kinds (set os f 0) slots' (set widths (held - 1) v) (set kinds (held - 1) k)
+    pub settle_added : (v k : ℕ) → v ≡ max (get_or widths (g) 0) (get_or widths f 0) → k ≡ both_kinds (get_or kinds (g) 0) (get_or kinds f 0)
+        → Settling base f os slots widths kinds (set os f 0) slots' (set widths (g) v) (set kinds (g) k)
     settle_added v k ev ek = by e
       where
-        by : Entering base f (get_or os f 0) slots held slots' → Settling base f os slots widths kinds (set os f 0) slots' (set widths (held - 1) v) (set kinds (held - 1) k)
-        by (Entering.outside q z _) = absurd (n z)
-        by (Entering.put i free z _) = absurd (n z)
-        by (Entering.taken i q _ same) = Settling.added (held - 1) i (q ∙ omega arith) refl same (rw ev) (rw ek)
+        by : Entering base f (get_or os f 0) slots held slots' → Settling base f os slots widths kinds (set os f 0) slots' (set widths (g) v) (set kinds (g) k)
+        by (Entering.outside q z _) = absurd (omega arith)
+        by (Entering.put i free z _) = absurd (omega arith)
+        by (Entering.taken i q _ same) = Settling.added (g) i (q ∙ eg) refl same (rw ev) (rw ek)

@@ -255,18 +255,19 @@ module _ (s : List ℕ) (c : Chains) (base i : ℕ) (os₀ widths₀ kinds₀ os
       known = λ u z. known_same z w.known;
     }
 
-    module _ (n : at ≡ 0 → ⊥) where
-      pub visit_asks : Grouped c base (at - 1 + 1) os slots widths kinds × (((at - 1 < window) × (get_or slots (at - 1) 0 ≡ 0 → ⊥)) × Known s known_now)
+    module _ (j : ℕ) (ej : at ≡ suc j) where
+      pub visit_asks : Grouped c base (j + 1) os slots widths kinds × (((j < window) × (get_or slots (j) 0 ≡ 0 → ⊥)) × Known s known_now)
       visit_asks =
-          let e : at - 1 + 1 ≡ at = omega arith in
+          let e : j + 1 ≡ at = omega arith in
+          let down : at - 1 ≡ j = omega arith in
           let u = h.upto in
           let l = w.low in
-          (rw e grouped_at, ((omega arith, h.some (omega arith)), w.known))
+          (rw e grouped_at, ((omega arith, (rw down at (h.some (omega arith)))), w.known))
 
-      pub going_less : at - 1 < i
+      pub going_less : j < i
       going_less = let u = h.upto in omega arith
 
-      module _ (os' slots' widths' kinds' : List ℕ) (r' : Option Window) (p : Passes s c base (at - 1) os widths kinds os' slots' widths' kinds' r') where
+      module _ (os' slots' widths' kinds' : List ℕ) (r' : Option Window) (p : Passes s c base (j) os widths kinds os' slots' widths' kinds' r') where
         pub going_fails : r' ≡ None → (u : Option Window) → u ≡ None → Passes s c base 0 os₀ widths₀ kinds₀ os' slots' widths' kinds' u
         going_fails h u e = record {
           reached = λ v z. absurd (cc);
@@ -274,7 +275,7 @@ module _ (s : List ℕ) (c : Chains) (base i : ℕ) (os₀ widths₀ kinds₀ os
           known = λ v z. absurd (cc);
         }
 
-        pub going_next : (v : Window) → r' ≡ Some v → Going s c base (at - 1) os₀ widths₀ kinds₀ os' slots' widths' kinds' v
+        pub going_next : (v : Window) → r' ≡ Some v → Going s c base (j) os₀ widths₀ kinds₀ os' slots' widths' kinds' v
         going_next v q = record {
           reached = record { state = (p.reached v q).state; alike = then_alike w.reached.alike (p.reached v q).alike };
           low = (let u = h.upto in let l = w.low in omega arith);

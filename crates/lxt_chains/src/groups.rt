@@ -132,11 +132,9 @@ fn settle(
     requires { Settles base f pending.old slots.old widths.old kinds.old }
     ensures { Settling base f pending.old slots.old widths.old kinds.old pending.new slots.new widths.new kinds.new }
 {
-    let held = window::enter(slots, base, f, pending[f]);
-    if held == 0 {
+    let Some(g) = window::enter(slots, base, f, pending[f]) else {
         return;
-    }
-    let g = held as usize - 1;
+    };
     widths[g] = widths[g].max(widths[f]);
     kinds[g] = both_kinds(kinds[g], kinds[f]);
     pending[f] = 0;
@@ -199,14 +197,11 @@ fn decide_window(
 {
     let mut i = WINDOW;
     let mut known = w;
-    loop {
-        let at = window::down(pending, slots, base, i);
-        if at == 0 {
-            return Some(known);
-        }
-        i = at - 1;
+    while let Some(at) = window::down(pending, slots, base, i) {
+        i = at;
         known = visit(file, c, pending, slots, widths, kinds, base, i, known)?;
     }
+    Some(known)
 }
 
 // Whether a chain of any group has a fault. No change at or above T is read.
