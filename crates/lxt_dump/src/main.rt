@@ -3,55 +3,30 @@
 // standard error.
 #![tactic(auto)]
 
-ghost use Rattle.std.specs.Prelude.{◌≡◌, ◌≤◌, ◌<◌, length, take};
+ghost use Rattle.std.specs.Prelude.{◌≡◌, ◌≤◌, ◌<◌, length, take, IfOk};
 ghost use Rattle.lxt_print.specs.Calls.{Lent};
 
 use lxt_format::File;
 use lxt_print::printing;
 use lxt_print::printing::Printing;
+use std::io;
 use std::io::Read;
 
-// How many bytes were read, and whether a read failed after them.
-#[derive(Clone, Copy)]
-struct Input {
-    size: usize,
-    failed: bool,
-}
-
-// Reads until the buffer is full, the input ends or a read fails.
-fn read_all(from: &mut impl Read, input: &mut [u8]) -> Input
-    ensures within { result.size ≤ length input.new }
-    ensures part { result.size ≡ length (take result.size input.new) }
+// Reads until the buffer is full, the input ends or a read fails: how many bytes were read.
+fn read_all(from: &mut impl Read, input: &mut [u8]) -> io::Result<usize>
+    ensures within { IfOk result (λ size. size ≤ length input.new) }
+    ensures part { IfOk result (λ size. size ≡ length (take size input.new)) }
 {
     let mut size = 0;
     // by as many bytes as a read gives, not a count
     while size < input.len() {
-        match from.read(&mut input[size..]) {
-            Ok(0) => {
-                return Input {
-                    size,
-                    failed: false,
-                };
-            }
-            Ok(more) => size += more,
-            Err(_) => {
-                return Input { size, failed: true };
-            }
+        let more = from.read(&mut input[size..])?;
+        if more == 0 {
+            break;
         }
+        size += more;
     }
-    Input {
-        size,
-        failed: false,
-    }
-}
-
-// Writes all bytes to standard output, or says that a write failed.
-fn write(rt: &(impl Print + Eprint), bytes: &[u8]) -> bool {
-    if rt.write_all(bytes).is_ok() {
-        return true;
-    }
-    let _ = eprintln!(rt; "lxt_dump: a write failed");
-    false
+    Ok(size)
 }
 
 // Fills the buffer and writes what was filled, up to the last byte or to a write that fails.
@@ -68,8 +43,11 @@ fn print(
     let mut left = printing::begin(file, name, nodes, line);
     loop {
         let filled = printing::fill(file, left, name, nodes, line, out);
-        let written = write(rt, &out[..filled.size]);
-        if !written | filled.done {
+        if rt.write_all(&out[..filled.size]).is_err() {
+            let _ = eprintln!(rt; "lxt_dump: a write failed");
+            return;
+        }
+        if filled.done {
             return;
         }
         left = filled.left;
@@ -86,10 +64,9 @@ fn print_trace(rt: &(impl Print + Eprint), file: &[u8]) {
 
 fn main(rt: HostRuntime) {
     let mut input = [0u8; File::LONGEST_PRINTED + 1];
-    let read = read_all(&mut rt.stdin(), &mut input);
-    if read.failed {
+    let Ok(size) = read_all(&mut rt.stdin(), &mut input) else {
         let _ = eprintln!(rt; "lxt_dump: a read failed");
         return;
-    }
-    print_trace(&rt, &input[..read.size]);
+    };
+    print_trace(&rt, &input[..size]);
 }
