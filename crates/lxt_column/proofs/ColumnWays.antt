@@ -1,15 +1,16 @@
 -- A law for each way out of a column.
 use Prim.Native.Nat.{ℕ, ◌≤◌, ◌<◌}
 use mathlib.Core.Path.{◌≡◌, refl, sym, ◌∙◌, ap}
-use mathlib.Core.Bool.{Bool, true, false, ◌&&◌, ◌||◌, not}
+use mathlib.Core.Bool.{Bool, true, false, ◌&&◌}
 use mathlib.Core.List.{List, map}
 use lib.ListN.{length, replicate}
 use lib.IntN.{ℤ}
 use lib.Dec.{ltb, leb}
-use borrow.Author.Tests.{le-leb, lt-leb, leb-true, ltb-true, ltb-false, eqb-false, ne_eqb, not-true, not-false}
+use borrow.Author.Tests.{le-leb, lt-leb, leb-true, eqb-false, ne_eqb}
 use Rattle.lxt_format.specs.Limits.{longest_column}
 use Rattle.lxt_format.specs.Basics.{◌unless◌, Answer, given, refused, all, first_fault}
-use Rattle.lxt_format.specs.BasicsLaws.{or_either, or_none, stops, was_refused}
+use Rattle.lxt_format.specs.BasicsLaws.{stops, was_refused}
+use Rattle.std.proofs.Common.{◌⊎◌, inl, inr}
 use Rattle.lxt_format.specs.Columns.{onto}
 use Rattle.lxt_format.specs.Sections.{facility_count}
 use Rattle.lxt_format.specs.Judge.{file_refusal}
@@ -35,15 +36,15 @@ module _ (s : List ℕ) (x : Examined) (h : given x ≡ examined s) where
 -- ---- what the list and the roots ask
 
 module _ (s asked : List ℕ) (fine : file_refusal s ≡ 0) (t : Tables) (e : t ≡ tables_of s) where
-  pub list_known : (allowed : Bool) → allowed ≡ leb (length asked) longest_column → not allowed ≡ false
-      → (each : Bool) → each ≡ all (λ f. ltb f t.facilities) asked → not each ≡ false → Listed s t asked
+  pub list_known : (allowed : Bool) → allowed ≡ leb (length asked) longest_column → allowed ≡ true
+      → (each : Bool) → each ≡ all (λ f. ltb f t.facilities) asked → each ≡ true → Listed s t asked
   list_known allowed ea l each ee h =
       let k = tables_known s t e fine in
       record {
         accepted = fine;
         tables = e;
-        short = leb-true (length asked) longest_column (sym ea ∙ not-false allowed l);
-        below = rw k.facilities at (sym ee ∙ not-false each h);
+        short = leb-true (length asked) longest_column (sym ea ∙ l);
+        below = rw k.facilities at (sym ee ∙ h);
       }
 
 module _ (s : List ℕ) (t : Tables) (fine : file_refusal s ≡ 0) (e : t ≡ tables_of s) where
@@ -81,21 +82,21 @@ module _ (s : List ℕ) (time : ℤ) (asked : List ℕ) (lent : ℕ) (bits : Lis
   module _ (fine : file_refusal s ≡ 0) where
     -- whether the list is short enough
     module _ (allowed : Bool) (ea : allowed ≡ leb (length asked) longest_column) where
-      pub too_long : not allowed ≡ true → Says s time asked lent bits records (refused 35) bits records
+      pub too_long : allowed ≡ false → Says s time asked lent bits records (refused 35) bits records
       unfolding column_refusal
       too_long h =
-          let long : leb (length asked) longest_column ≡ false = sym ea ∙ not-true allowed h in
+          let long : leb (length asked) longest_column ≡ false = sym ea ∙ h in
           by_refusal 35 (rw (fine, long)) (eqb-false 35 0 refl)
 
       -- whether all numbers are those of facilities
-      pub wrong_number : not allowed ≡ false → (t : Tables) → t ≡ tables_of s → (each : Bool) → each ≡ all (λ f. ltb f t.facilities) asked → not each ≡ true
+      pub wrong_number : allowed ≡ true → (t : Tables) → t ≡ tables_of s → (each : Bool) → each ≡ all (λ f. ltb f t.facilities) asked → each ≡ false
           → Says s time asked lent bits records (refused 18) bits records
       unfolding column_refusal
       wrong_number l t e each ee h =
           let k = tables_known s t e fine in
-          let none : all (λ f. ltb f (facility_count s)) asked ≡ false = rw k.facilities at (sym ee ∙ not-true each h) in
+          let none : all (λ f. ltb f (facility_count s)) asked ≡ false = rw k.facilities at (sym ee ∙ h) in
           let first : first_fault (map (facility_refusal s) asked) ≡ 18 = rw none at (first_refusal s fine asked) in
-          let short : leb (length asked) longest_column ≡ true = sym ea ∙ not-false allowed l in
+          let short : leb (length asked) longest_column ≡ true = sym ea ∙ l in
           by_refusal 18 (rw (fine, short, first)) (eqb-false 18 0 refl)
 
   -- once the list is known
@@ -107,23 +108,22 @@ module _ (s : List ℕ) (time : ℤ) (asked : List ℕ) (lent : ℕ) (bits : Lis
         rw (w.accepted, le-leb (length asked) longest_column w.short, first)
 
     module _ (needed : ℕ) (en : needed ≡ widths_of s asked) where
-      pub no_room : (ltb (length bits) needed || ltb (length records) (length asked)) ≡ true → Says s time asked lent bits records (refused 21) bits records
+      pub no_room : (length bits < needed) ⊎ ((needed ≤ length bits) × (length records < length asked)) → Says s time asked lent bits records (refused 21) bits records
       no_room h =
           by_refusal 21
-          (refusal_is ∙ or_either (ltb (length bits) needed) (ltb (length records) (length asked)) h
-          (λ few. let l : length bits < widths_of s asked = rw en at (ltb-true (length bits) needed few) in rw (lt-leb (widths_of s asked) (length bits) l))
-          (λ few. rw (lt-leb (length asked) (length records) (ltb-true _ _ few)) (none (leb (widths_of s asked) (length bits)))))
+          (elim h [
+            | inl few ↦ let l : length bits < widths_of s asked = rw en at few in refusal_is ∙ rw (lt-leb (widths_of s asked) (length bits) l)
+            | inr few ↦ refusal_is ∙ rw (lt-leb (length asked) (length records) few.1) (none (leb (widths_of s asked) (length bits)))
+          ])
           (eqb-false 21 0 refl)
         where
           none : (b : Bool) → (21 unless (b && false)) ≡ 21
           none true = refl
           none false = refl
 
-      module _ (h : (ltb (length bits) needed || ltb (length records) (length asked)) ≡ false) where
+      module _ (wide : needed ≤ length bits) (long : length asked ≤ length records) where
         pub room_there : (widths_of s asked ≤ length bits) × (length asked ≤ length records)
-        room_there =
-            let both = or_none (ltb (length bits) needed) (ltb (length records) (length asked)) h in
-            (rw en at (ltb-false (length bits) needed both.0), ltb-false (length records) (length asked) both.1)
+        room_there = (rw en at wide, long)
 
         pub all_put : (visited : ℕ) (bits' : List ℕ) (records' : List (List ℕ))
             → (visited ≡ column_visited s time asked) × ((bits' ≡ onto (column_bits s time asked) bits) × (records' ≡ onto (column_records s time lent 0 asked) records))

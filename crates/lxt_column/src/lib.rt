@@ -32,7 +32,7 @@ fn by_roots(
     ensures records_after { records.new ≡ column_output file.now time facilities.now lent (length bits.old) records.old }
 {
     let needed = list::widths(file, t, roots, facilities);
-    if (bits.len() < needed) | (records.len() < facilities.len()) {
+    if bits.len() < needed || records.len() < facilities.len() {
         return Err(Refusal::Room);
     }
     let mut known = [items::UNKNOWN; aliases::ROOM];

@@ -5,15 +5,15 @@ use Rattle.lxt_column.proofs.by_roots.Goals as goal
 
 pub returns-then-bits-needed : goal.returns-then-bits-needed
 returns-then-bits-needed c =
-    let all = no_room _ _ _ _ _ _ _ c.requires.0 _ c.widths-needed.ensures c.if-bits-needed.true in
+    let all = no_room _ _ _ _ _ _ _ c.requires.0 _ c.widths-needed.ensures c.then-bits-needed.either in
     record { result_value = all.0; bits_after = all.1.0; records_after = all.1.1 }
 
 pub put_all-visited-requires : goal.put_all-visited-requires
-put_all-visited-requires c = record { listed = c.requires; facilities_in_bounds = room_there c.args.file.now c.args.time c.args.facilities.now c.args.lent c.args.bits.now c.args.records.now _ c.requires.0 _ c.widths-needed.ensures c.if-bits-needed.false; forgotten = forgotten }
+put_all-visited-requires c = record { listed = c.requires; facilities_in_bounds = room_there c.args.file.now c.args.time c.args.facilities.now c.args.lent c.args.bits.now c.args.records.now _ c.requires.0 _ c.widths-needed.ensures c.if-bits-needed.false c.if-records-facilities.false; forgotten = forgotten }
 
 pub returns : goal.returns
 returns c =
     let put = c.put_all-visited.ensures in
-    let all = all_put _ _ _ _ _ _ _ c.requires.0 _ c.widths-needed.ensures c.if-bits-needed.false _ _ _
+    let all = all_put _ _ _ _ _ _ _ c.requires.0 _ c.widths-needed.ensures c.if-bits-needed.false c.if-records-facilities.false _ _ _
     (put_at _ _ c.ranges.time _ _ _ _ _ _ _ (put.value, (put.bits_after, put.records_after))) in
     record { result_value = all.0; bits_after = all.1.0; records_after = all.1.1 }

@@ -1,5 +1,3 @@
-use mathlib.Core.Path.{ap}
-use mathlib.Core.Bool.{not}
 use lib.ListN.{length}
 use mir.Syntax.{w64}
 use mir.ValLaws.{to_z-of_z}
@@ -15,12 +13,12 @@ returns-in_err-t c =
 
 pub returns-then-not-length_is_allowed : goal.returns-then-not-length_is_allowed
 returns-then-not-length_is_allowed c =
-    let all = too_long _ _ _ _ _ _ (file_fine _ _ c.in_ok-t.ensures) _ c.length_is_allowed.ensures (ap not c.if-not-length_is_allowed.true) in
+    let all = too_long _ _ _ _ _ _ (file_fine _ _ c.in_ok-t.ensures) _ c.length_is_allowed.ensures c.if-not-length_is_allowed.true in
     record { result_value = all.0; bits_after = all.1.0; records_after = all.1.1 }
 
 pub returns-then-not-all_below : goal.returns-then-not-all_below
 returns-then-not-all_below c =
-    let all = wrong_number _ _ _ _ _ _ (file_fine _ _ c.in_ok-t.ensures) _ c.length_is_allowed.ensures (ap not c.if-not-length_is_allowed.false) _ (tables_are _ _ c.in_ok-t.ensures) _ c.all_below.ensures (ap not c.if-not-all_below.true) in
+    let all = wrong_number _ _ _ _ _ _ (file_fine _ _ c.in_ok-t.ensures) _ c.length_is_allowed.ensures c.if-not-length_is_allowed.false _ (tables_are _ _ c.in_ok-t.ensures) _ c.all_below.ensures c.if-not-all_below.true in
     record { result_value = all.0; bits_after = all.1.0; records_after = all.1.1 }
 
 pub put_roots-requires : goal.put_roots-requires
@@ -29,7 +27,7 @@ put_roots-requires c = roots_ask _ _ (file_fine _ _ c.in_ok-t.ensures) (tables_a
 pub by_roots-requires : goal.by_roots-requires
 by_roots-requires c =
     let fine = file_fine _ _ c.in_ok-t.ensures in (
-      list_known _ _ fine _ (tables_are _ _ c.in_ok-t.ensures) _ c.length_is_allowed.ensures (ap not c.if-not-length_is_allowed.false) _ c.all_below.ensures (ap not c.if-not-all_below.false),
+      list_known _ _ fine _ (tables_are _ _ c.in_ok-t.ensures) _ c.length_is_allowed.ensures c.if-not-length_is_allowed.false _ c.all_below.ensures c.if-not-all_below.false,
       roots_known _ _ fine (tables_are _ _ c.in_ok-t.ensures) _ _ c.put_roots.ensures,
     )
 
