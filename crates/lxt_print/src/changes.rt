@@ -63,7 +63,7 @@ pub fn next(
 {
     let taken = take_highest(file, nodes, m)?;
     let o = taken.offset;
-    let e = entries::down(
+    let entry = entries::down(
         file,
         t.times as usize,
         t.time_count,
@@ -71,6 +71,6 @@ pub fn next(
         entry,
         o as usize,
     );
-    let size = lines::change(file, t, taken.number as u32, o, e.time, out);
-    Some(Line { size, entry: e })
+    let size = lines::change(file, t, taken.number as u32, o, entry.time, out);
+    Some(Line { size, entry })
 }
