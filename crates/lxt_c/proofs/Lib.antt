@@ -1,3 +1,1 @@
-pub mod JudgeLaws
 pub mod GiveLaws
-pub mod FactsLaws

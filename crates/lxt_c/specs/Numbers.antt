@@ -46,7 +46,7 @@ facts_lsb (given a) before = a.lsb
 facts_lsb (refused k) before = before
 
 -- an answer that is one number
-unfoldable pub one_number : Answer ℕ → ℕ → ℕ
+unfoldable pub one_number : {A : Type 0} → Answer A → A → A
 one_number (given a) before = a
 one_number (refused k) before = before
 

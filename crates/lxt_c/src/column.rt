@@ -1,24 +1,10 @@
 // The exported C function that answers a whole column of values.
 ghost use Rattle.std.specs.Prelude.{◌≡◌, length};
-ghost use Rattle.lxt_format.specs.Answers.{column_says};
 ghost use Rattle.lxt_format.specs.Questions.{column_asked, column_buffer, column_output};
 ghost use Rattle.lxt_c.specs.Numbers.{number_of, one_number};
 
+use crate::give;
 use lxt_column::column;
-use lxt_format::ColumnAnswer;
-
-// An answer that is the number of changes visited.
-fn give_visited(a: ColumnAnswer, visited: &mut u64) -> u32
-    ensures { (result ≡ number_of (column_says a)) × (visited.new ≡ one_number (column_says a) visited.old) }
-{
-    match a {
-        ColumnAnswer::Given { visited: sum } => {
-            *visited = sum;
-            0
-        }
-        ColumnAnswer::Refused(n) => n as u32,
-    }
-}
 
 // The values of many facilities at a time: a record of four numbers for each, symbols written into the lent bits
 // buffer one after the other, and how many changes were visited for all of them together.
@@ -39,6 +25,5 @@ pub extern "C" fn lxt_column(
         (column_asked file.now time facilities.now (length bits.old) (length records.old))
         visited.old }
 {
-    let a = column(file, time, facilities, text, bits, records);
-    give_visited(a, visited)
+    give(column(file, time, facilities, text, bits, records), visited)
 }

@@ -1,21 +1,9 @@
 // The walk for C: starting one, and carrying on.
 ghost use Rattle.std.specs.Prelude.{◌≡◌, length};
-ghost use Rattle.lxt_format.specs.Answers.{start_says, carry_says};
 ghost use Rattle.lxt_format.specs.Questions.{start_asked, start_record, carry_asked, carry_record, carry_output};
 ghost use Rattle.lxt_c.specs.Numbers.{number_of, carry_numbers};
 
-use crate::yes_no;
-use lxt_format::{CarryAnswer, Pair, StartAnswer};
-
-// 0, or the refusal of starting a walk.
-fn start_number(a: StartAnswer) -> u32
-    ensures { result ≡ number_of (start_says a) }
-{
-    match a {
-        StartAnswer::Started => 0,
-        StartAnswer::Refused(n) => n as u32,
-    }
-}
+use lxt_format::Pair;
 
 // Starts a walk over the facilities whose byte in `asked` is not 0; the record is written into the lent
 // pairs.
@@ -23,24 +11,14 @@ fn start_number(a: StartAnswer) -> u32
 pub extern "C" fn lxt_start_walk(file: &[u8], asked: &[u8], pairs: &mut [Pair]) -> u32
     ensures { (result ≡ number_of (start_asked file.now asked.now (length pairs.old))) × (pairs.new ≡ start_record file.now asked.now pairs.old) }
 {
-    let a = lxt_record::start(file, asked, pairs);
-    start_number(a)
-}
-
-// How many pairs were handed out, and 1 where all pending offsets are 0, else 0.
-fn give_carry(a: CarryAnswer, answer: &mut [u32; 2]) -> u32
-    ensures { (result ≡ number_of (carry_says a)) × (answer.new ≡ carry_numbers (carry_says a) answer.old) }
-{
-    match a {
-        CarryAnswer::Handed { count, done } => {
-            *answer = [count, yes_no(done)];
-            0
-        }
-        CarryAnswer::Refused(n) => n as u32,
+    match lxt_record::start(file, asked, pairs) {
+        Ok(()) => 0,
+        Err(r) => u32::from(r.number()),
     }
 }
 
-// Carries on with a walk by up to `size` changes, which go into the output buffer by number and offset.
+// Carries on with a walk by up to `size` changes, which go into the output buffer by number and offset: how many
+// were handed out, and 1 where all pending offsets are 0, else 0.
 #[unsafe(no_mangle)]
 pub extern "C" fn lxt_carry_on(
     file: &[u8],
@@ -51,6 +29,11 @@ pub extern "C" fn lxt_carry_on(
 ) -> u32
     ensures { (result ≡ number_of (carry_asked file.now pairs.old size (length output.old))) × (answer.new ≡ carry_numbers (carry_asked file.now pairs.old size (length output.old)) answer.old) × (output.new ≡ carry_output file.now pairs.old size output.old) × (pairs.new ≡ carry_record file.now pairs.old size (length output.old)) }
 {
-    let a = lxt_record::carry_on(file, pairs, size, output);
-    give_carry(a, answer)
+    match lxt_record::carry_on(file, pairs, size, output) {
+        Ok(h) => {
+            *answer = [h.count, u32::from(h.done)];
+            0
+        }
+        Err(r) => u32::from(r.number()),
+    }
 }

@@ -1,22 +1,9 @@
 // The exported C function that writes a trace.
 ghost use Rattle.std.specs.Prelude.{◌≡◌, length};
-ghost use Rattle.lxt_written.specs.Writing.{write_says, write_asked, write_buffer};
+ghost use Rattle.lxt_written.specs.Writing.{write_asked, write_buffer};
 ghost use Rattle.lxt_c.specs.Numbers.{number_of, one_number};
 
-use lxt_written::WriteAnswer;
-
-// An answer that is the length of the file.
-fn give_length(a: WriteAnswer, size: &mut u32) -> u32
-    ensures { (result ≡ number_of (write_says a)) × (size.new ≡ one_number (write_says a) size.old) }
-{
-    match a {
-        WriteAnswer::Written { length } => {
-            *size = length;
-            0
-        }
-        WriteAnswer::Refused(n) => n as u32,
-    }
-}
+use crate::give;
 
 // The length of the file that the two tables mean, which is written to the start of the lent buffer.
 #[unsafe(no_mangle)]
@@ -36,6 +23,6 @@ pub extern "C" fn lxt_write(
         (write_asked facilities.now names.now changes.now values.now initial timescale (length out.old))
         size.old }
 {
-    let a = lxt_writer::write(facilities, names, changes, values, initial, timescale, out);
-    give_length(a, size)
+    let written = lxt_writer::write(facilities, names, changes, values, initial, timescale, out);
+    give(written, size)
 }

@@ -1,11 +1,11 @@
+use mathlib.Core.Path.{◌∙◌}
 use Rattle.lxt_c.specs.Numbers.{number_of, one_number}
-use borrow.Author.Rules.{rules}
 use Rattle.lxt_c.proofs.give.Goals as goal
 
-pub returns-in-Number : goal.returns-in-Number
+pub returns-in-Ok : goal.returns-in-Ok
 unfolding number_of one_number
-returns-in-Number c = search rules
+returns-in-Ok g c = (rw c.in-Ok.is, rw c.in-Ok.is)
 
-pub returns-in-Refused : goal.returns-in-Refused
+pub returns-in-Err : goal.returns-in-Err
 unfolding number_of one_number
-returns-in-Refused c = search rules
+returns-in-Err g c = (rw c.in-Err.is (c.from.ensures ∙ c.number.ensures), rw c.in-Err.is)

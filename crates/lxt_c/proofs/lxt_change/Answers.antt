@@ -1,25 +1,31 @@
-use mathlib.Core.Path.{sym, ◌∙◌}
-use Rattle.lxt_c.proofs.GiveLaws.{timed_number, timed_numbers, untimed, unclean, timed_time, timed_clean}
+use mir.Syntax.{w64}
+use mir.ValLaws.{to_z-of_z}
+use mathlib.Core.Path.{◌∙◌}
 use borrow.Author.Rules.{rules}
+use Rattle.lxt_c.specs.Numbers.{number_of, value_numbers, beside_value}
+use Rattle.lxt_c.proofs.GiveLaws.{yes_no_is}
 use Rattle.lxt_c.proofs.lxt_change.Goals as goal
 
-pub returns-then-refusal-ne0 : goal.returns-then-refusal-ne0
-returns-then-refusal-ne0 c =
-    let timed = c.of_change-t.result in
-    let read = c.of_change-t.ensures in
-    let gave = c.give_value-refusal.ensures in
-    let no = c.if-refusal-ne0.true in
-    let number = timed_number _ _ _ _ timed read.0 _ gave.0 in
-    let numbers = timed_numbers _ _ _ _ timed read.0 _ gave.0 _ _ gave.1 in
-    record { value = number; bits_after = read.1; time_after = untimed _ _ _ _ timed read.0 _ gave.0 no _; answer_after = numbers; clean_after = unclean _ _ _ _ timed read.0 _ gave.0 no _ }
+pub returns-in-Ok : goal.returns-in-Ok
+unfolding number_of value_numbers beside_value
+returns-in-Ok c =
+    let e = c.in-Ok.ensures.0 in
+    record {
+      value = rw (← e);
+      bits_after = c.in-Ok.ensures.1;
+      time_after = rw (← e) (to_z-of_z w64 c.in-Ok.t.time (search rules));
+      answer_after = rw (← e) c.numbers_of.ensures;
+      clean_after = rw (← e) (c.from.ensures ∙ yes_no_is c.in-Ok.t.clean);
+    }
 
-pub returns : goal.returns
-returns c =
-    let timed = c.of_change-t.result in
-    let read = c.of_change-t.ensures in
-    let gave = c.give_value-refusal.ensures in
-    let yes = c.if-refusal-ne0.false in
-    let number = timed_number _ _ _ _ timed read.0 _ gave.0 in
-    let numbers = timed_numbers _ _ _ _ timed read.0 _ gave.0 _ _ gave.1 in
-    let time = timed_time _ _ _ _ timed read.0 _ gave.0 yes (search rules) in
-    record { value = sym yes ∙ number; bits_after = read.1; time_after = time _; answer_after = numbers; clean_after = timed_clean _ _ _ _ timed read.0 _ gave.0 yes _ c.yes_no.ensures _ }
+pub returns-in-Err : goal.returns-in-Err
+unfolding number_of value_numbers beside_value
+returns-in-Err c =
+    let e = c.in-Err.ensures.0 in
+    record {
+      value = rw (← e) (c.from-in-Err.ensures ∙ c.number.ensures);
+      bits_after = c.in-Err.ensures.1;
+      time_after = rw (← e);
+      answer_after = rw (← e);
+      clean_after = rw (← e);
+    }

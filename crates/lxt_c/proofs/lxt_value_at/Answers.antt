@@ -1,24 +1,24 @@
-use mathlib.Core.Path.{sym, ◌∙◌}
-use Rattle.lxt_c.proofs.GiveLaws.{at_buffer, at_number, at_numbers, at_refused, at_visited}
+use mir.Syntax.{w64}
+use mir.ValLaws.{to_z-of_z}
+use mathlib.Core.Path.{◌∙◌}
+use Rattle.lxt_c.specs.Numbers.{number_of, value_numbers, beside_value}
 use Rattle.lxt_c.proofs.lxt_value_at.Goals as goal
 
-pub returns-then-refusal-ne0 : goal.returns-then-refusal-ne0
-returns-then-refusal-ne0 c =
-    let fits = c.ranges.time in
-    let lookup = c.at_time-l.result in
-    let read = c.at_time-l.ensures in
-    let gave = c.give_value-refusal.ensures in
-    let number = at_number _ _ _ fits _ lookup read.0 _ gave.0 in
-    let numbers = at_numbers _ _ _ fits _ lookup read.0 _ gave.0 _ _ gave.1 in
-    record { value = number; bits_after = at_buffer _ _ _ fits _ _ read.1; answer_after = numbers; visited_after = at_refused _ _ _ fits _ lookup read.0 _ gave.0 c.if-refusal-ne0.true _ }
+pub returns-in-Ok : goal.returns-in-Ok
+unfolding number_of value_numbers beside_value
+returns-in-Ok c =
+    let time = to_z-of_z w64 c.args.time c.ranges.time in
+    let e = rw time at c.in-Ok.ensures.0 in
+    record { value = rw (← e); bits_after = rw time at c.in-Ok.ensures.1; answer_after = rw (← e) c.numbers_of.ensures; visited_after = rw (← e) }
 
-pub returns : goal.returns
-returns c =
-    let fits = c.ranges.time in
-    let lookup = c.at_time-l.result in
-    let read = c.at_time-l.ensures in
-    let gave = c.give_value-refusal.ensures in
-    let yes = c.if-refusal-ne0.false in
-    let number = at_number _ _ _ fits _ lookup read.0 _ gave.0 in
-    let numbers = at_numbers _ _ _ fits _ lookup read.0 _ gave.0 _ _ gave.1 in
-    record { value = sym yes ∙ number; bits_after = at_buffer _ _ _ fits _ _ read.1; answer_after = numbers; visited_after = at_visited _ _ _ fits _ lookup read.0 _ gave.0 yes _ }
+pub returns-in-Err : goal.returns-in-Err
+unfolding number_of value_numbers beside_value
+returns-in-Err c =
+    let time = to_z-of_z w64 c.args.time c.ranges.time in
+    let e = rw time at c.in-Err.ensures.0 in
+    record {
+      value = rw (← e) (c.from.ensures ∙ c.number.ensures);
+      bits_after = rw time at c.in-Err.ensures.1;
+      answer_after = rw (← e);
+      visited_after = rw (← e);
+    }
