@@ -5,7 +5,7 @@
 
 ghost use Rattle.std.specs.Prelude.{◌≤◌, length};
 
-use lxt_format::{File, NameCursor, NumberAnswer, Summary};
+use lxt_format::{File, NameCursor, Summary};
 use lxt_reader::names;
 use std::io::Read;
 
@@ -35,10 +35,7 @@ fn ask(rt: &impl Print, file: &[u8], facility: u32, one: &mut [u8], other: &mut 
     } else {
         let _ = rt.write_all(b": DIFFERENT\n");
     }
-    match answer {
-        NumberAnswer::Number(_) => true,
-        NumberAnswer::Refused(_) => false,
-    }
+    answer.is_ok()
 }
 
 // Buffers of A5 hex, with three bytes more than a name needs.

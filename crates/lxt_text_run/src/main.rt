@@ -4,7 +4,7 @@
 
 ghost use Rattle.std.specs.Prelude.{◌≤◌, length};
 
-use lxt_format::{File, Summary, TextAnswer};
+use lxt_format::{File, Refusal, Summary, TextPlace};
 use lxt_reader::texts;
 use std::io::Read;
 
@@ -25,25 +25,15 @@ fn read_full(from: &mut impl Read, input: &mut [u8]) -> usize
 }
 
 // Which it is: whether the question was answered.
-fn tell(rt: &impl Print, place: TextAnswer) -> bool {
-    match place {
-        TextAnswer::File { .. } => {
-            let _ = rt.write_all(b"in the file: ");
-            true
-        }
-        TextAnswer::Lent { .. } => {
-            let _ = rt.write_all(b"lent: ");
-            true
-        }
-        TextAnswer::OtherKind => {
-            let _ = rt.write_all(b"another kind: ");
-            true
-        }
-        TextAnswer::Refused(_) => {
-            let _ = rt.write_all(b"refused: ");
-            false
-        }
-    }
+fn tell(rt: &impl Print, answer: Result<TextPlace, Refusal>) -> bool {
+    let which: &[u8] = match answer {
+        Ok(TextPlace::File { .. }) => b"in the file: ",
+        Ok(TextPlace::Lent { .. }) => b"lent: ",
+        Ok(TextPlace::OtherKind) => b"another kind: ",
+        Err(_) => b"refused: ",
+    };
+    let _ = rt.write_all(which);
+    answer.is_ok()
 }
 
 fn ask<'a>(rt: &impl Print, file: &'a [u8], facility: u32, time: i64, text: &'a [u8]) -> bool {
