@@ -9,12 +9,10 @@ use mir.Syntax.{w64}
 use mir.Val.{to_z, of_z}
 use mir.ValLaws.{to_z-of_z}
 use lib.ListN.{length}
-use lib.Dec.{ltb, eqb, lit<}
 use native.Mathlib.Omega.{arith}
-use borrow.Author.Tests.{ne_eqb, le-leb, lt-leb, ltb-true, eqb-false}
+use borrow.Author.Tests.{ne_eqb, le-leb, lt-leb, eqb-false}
 use Rattle.lxt_format.specs.Basics.{given, refused, answer}
 use Rattle.lxt_format.specs.BasicsLaws.{stops, was_refused}
-use Rattle.lxt_format.specs.Sections.{facility_count}
 use Rattle.lxt_format.specs.Geometry.{root_of, facts_of}
 use Rattle.lxt_format.specs.Times.{time_of}
 use Rattle.lxt_format.specs.BiasedTimes.{bias}
@@ -22,15 +20,14 @@ use Rattle.lxt_format.specs.Changes.{signal, chain_of, clean_at}
 use Rattle.lxt_format.specs.Changes.{Sound}
 use Rattle.lxt_format.specs.Values.{Content, content_by, content_of, latest_at, change_at, visited_in, visited_at, content_at}
 use Rattle.lxt_format.specs.Answers.{refusal_number, Shown, shown, Timed, timed_says, LookedUp, lookup_says}
-use Rattle.lxt_format.specs.Questions.{holding_bits, facility_refusal, change_refusal, reading_refusal, change_asked, change_buffer, value_refusal, value_asked, value_buffer, chain_asked}
-use Rattle.lxt_format.specs.Judge.{signal_by, signal_of, file_refusal, fault_from}
+use Rattle.lxt_format.specs.Questions.{holding_bits, facility_refusal, change_refusal, reading_refusal, change_asked, change_buffer, value_refusal, value_asked, value_buffer}
+use Rattle.lxt_format.specs.Judge.{signal_by, signal_of, fault_from}
 use Rattle.lxt_format.proofs.VisitedLaws.{visited_most}
 use Rattle.lxt_values.specs.Reals.{order_places}
 use Rattle.lxt_values.specs.Times as Ti
 use Rattle.lxt_values.specs.Times.{Readable}
 use Rattle.lxt_format.proofs.ValuesLaws.{latest_change_sound}
 use Rattle.lxt_values.proofs.SoundChains.{chain_readable}
-use Rattle.lxt_tables.specs.Stage.{tables_of}
 use Rattle.lxt_tables.proofs.TablesLaws.{Known, tables_known, entry_allowed, root_in, root_plain, width_most, has_real_lem, real_order}
 use Rattle.lxt_changes.specs.Padding.{Inside}
 use Rattle.lxt_changes.proofs.PaddingLaws.{sound_inside}
@@ -135,9 +132,6 @@ module _ (s : List ℕ) (f o : ℕ) (buffer : List ℕ) where
 -- ---- the latest change at a time
 
 module _ (s : List ℕ) (f : ℕ) (t : ℤ) (c : Chain) (w : Chained s f c) where
-  pub latest_asks : Ti.Times s c.tables.times c.tables.time_count c.tables.wide_times × Readable s (chain_of s c.start)
-  latest_asks = (times_there s f c w, chain_there s f c w)
-
   module _ (o visited : ℕ) (found : (o ≡ latest_at s t (chain_of s c.start)) × (visited ≡ visited_in s t (chain_of s c.start))) where
     pub change_is : o ≡ change_at s (root_of s f) t
     unfolding change_at

@@ -9,7 +9,8 @@ ghost use Rattle.lxt_format.specs.Changes.{data_at};
 use crate::changes;
 use lxt_changes::delta;
 use lxt_format::{Kind, Refusal, TextPlace};
-use lxt_values::{texts, times};
+use lxt_values::entries::TimeTable;
+use lxt_values::texts;
 
 // Where the text of the change at `o` stands in the file, without its zero.
 fn text_of(file: &[u8], end: usize, o: usize) -> TextPlace
@@ -33,14 +34,8 @@ pub fn place_at(file: &[u8], facility: u32, time: i64, text: &[u8]) -> Result<Te
         return Ok(TextPlace::OtherKind);
     };
     let t = chain.tables;
-    let found = times::latest(
-        file,
-        t.times as usize,
-        t.time_count,
-        t.wide_times,
-        chain.start as usize,
-        time,
-    );
+    let times = TimeTable::new(file, t.times as usize, t.time_count, t.wide_times);
+    let found = times.latest(chain.start as usize, time);
     if found.offset == 0 {
         return Ok(TextPlace::Lent { length: text.len() });
     }

@@ -6,7 +6,8 @@ ghost use Rattle.lxt_format.specs.Questions.{change_asked, change_buffer, value_
 use crate::changes;
 use lxt_changes::padding::is_clean;
 use lxt_format::{Lookup, Refusal, TimedValue};
-use lxt_values::{times, value};
+use lxt_values::entries::TimeTable;
+use lxt_values::value;
 
 // A change's time and value, and whether its padding is 0; its symbols fill the first bytes of the lent buffer.
 pub fn of_change(
@@ -24,7 +25,8 @@ pub fn of_change(
     }
     let t = c.tables;
     let o = offset as usize;
-    let time = times::time_of(file, t.times as usize, t.time_count, t.wide_times, o);
+    let times = TimeTable::new(file, t.times as usize, t.time_count, t.wide_times);
+    let time = times.time_of(o);
     let clean = is_clean(file, facts.kind, facts.width, o);
     let value = value::read(file, t.end, t.order, facts.kind, facts.width, o, bits);
     Ok(TimedValue { time, value, clean })
@@ -41,14 +43,8 @@ pub fn at_time(file: &[u8], facility: u32, time: i64, bits: &mut [u8]) -> Result
         return Err(Refusal::Room);
     }
     let t = chain.tables;
-    let found = times::latest(
-        file,
-        t.times as usize,
-        t.time_count,
-        t.wide_times,
-        chain.start as usize,
-        time,
-    );
+    let times = TimeTable::new(file, t.times as usize, t.time_count, t.wide_times);
+    let found = times.latest(chain.start as usize, time);
     let value = value::at(
         file,
         t.end,

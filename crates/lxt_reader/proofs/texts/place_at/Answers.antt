@@ -1,7 +1,7 @@
 use Rattle.std.proofs.lemmas.Result.{err_from_is_err_and}
 use Rattle.lxt_values.proofs.BiasLaws.{latest_at_lem}
 use Rattle.lxt_reader.proofs.ChangeWays.{chained}
-use Rattle.lxt_reader.proofs.ValueWays.{latest_asks}
+use Rattle.lxt_reader.proofs.ValueWays.{times_there, chain_there}
 use Rattle.lxt_reader.proofs.TextWays.{text_refused, text_another, text_lent, text_there, text_found}
 use Rattle.lxt_reader.proofs.texts.place_at.Goals as goal
 
@@ -13,20 +13,23 @@ returns-in_err-chain c =
 pub returns-in_default : goal.returns-in_default
 returns-in_default c = text_another _ _ c.args.time _ _ (chained _ _ _ c.in_ok-chain.ensures) c.in_default.not-Text
 
+pub new-times-requires : goal.new-times-requires
+new-times-requires c = times_there _ _ _ (chained _ _ _ c.in_ok-chain.ensures)
+
 pub latest-found-requires : goal.latest-found-requires
-latest-found-requires c = latest_asks _ _ c.args.time _ (chained _ _ _ c.in_ok-chain.ensures)
+latest-found-requires c = rw c.new-times.ensures.same_file (chain_there _ _ _ (chained _ _ _ c.in_ok-chain.ensures))
 
 pub returns-then-found-eq0 : goal.returns-then-found-eq0
 returns-then-found-eq0 c =
-    let latest = latest_at_lem _ _ c.ranges.time _ _ _ c.latest-found.ensures in
+    let latest = latest_at_lem _ _ c.ranges.time _ _ _ (rw c.new-times.ensures.same_file at c.latest-found.ensures) in
     text_lent _ _ _ _ _ (chained _ _ _ c.in_ok-chain.ensures) c.in-Text.is _ _ latest c.if-found-eq0.true
 
 pub text_of-requires : goal.text_of-requires
 text_of-requires c =
-    let latest = latest_at_lem _ _ c.ranges.time _ _ _ c.latest-found.ensures in
+    let latest = latest_at_lem _ _ c.ranges.time _ _ _ (rw c.new-times.ensures.same_file at c.latest-found.ensures) in
     text_there _ _ _ 0 _ (chained _ _ _ c.in_ok-chain.ensures) c.in-Text.is _ _ latest c.if-found-eq0.false
 
 pub returns : goal.returns
 returns c =
-    let latest = latest_at_lem _ _ c.ranges.time _ _ _ c.latest-found.ensures in
+    let latest = latest_at_lem _ _ c.ranges.time _ _ _ (rw c.new-times.ensures.same_file at c.latest-found.ensures) in
     text_found _ _ _ _ _ (chained _ _ _ c.in_ok-chain.ensures) c.in-Text.is _ _ latest c.if-found-eq0.false _ c.text_of.ensures

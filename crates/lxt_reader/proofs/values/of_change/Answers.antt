@@ -11,8 +11,8 @@ returns-in_err-c c =
 pub returns-then-bits-facts : goal.returns-then-bits-facts
 returns-then-bits-facts c = change_short _ _ _ c.args.bits.now _ (looked _ _ _ _ c.in_ok-c.ensures) c.if-bits-facts.true
 
-pub time_of-time-requires : goal.time_of-time-requires
-time_of-time-requires c = times_there _ _ _ (looked _ _ _ _ c.in_ok-c.ensures).chain
+pub new-times-requires : goal.new-times-requires
+new-times-requires c = times_there _ _ _ (looked _ _ _ _ c.in_ok-c.ensures).chain
 
 pub is_clean-clean-requires : goal.is_clean-clean-requires
 is_clean-clean-requires c =
@@ -26,5 +26,5 @@ read-value-requires c =
 
 pub returns : goal.returns
 returns c =
-    change_given _ _ _ c.args.bits.now _ (looked _ _ _ _ c.in_ok-c.ensures) c.if-bits-facts.false _ c.time_of-time.type_inv c.time_of-time.ensures _ _
+    change_given _ _ _ c.args.bits.now _ (looked _ _ _ _ c.in_ok-c.ensures) c.if-bits-facts.false _ c.time_of-time.type_inv (rw c.new-times.ensures.same_file at c.time_of-time.ensures) _ _
     c.read-value.ensures.0 c.read-value.ensures.1 _ c.is_clean-clean.ensures

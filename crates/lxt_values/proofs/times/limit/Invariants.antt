@@ -1,7 +1,0 @@
-use Prim.Native.Nat.{◌+◌, ◌≤◌}
-use mathlib.Core.Path.{◌≡◌}
-use Rattle.lxt_values.specs.Entries.{EntryAt}
-use Rattle.lxt_values.proofs.times.limit.Given as goal
-
-abbrev pub invariant-loop-number : goal.invariant-loop-number
-invariant-loop-number l = EntryAt l.file l.e.number l.e.position l.e.time × ((l.e.time ≤ l.t) × (l.e.number + 1 ≡ l._number))
