@@ -33,7 +33,7 @@ use Rattle.lxt_values.proofs.ReadLaws.{bits_drawn, integer_drawn, symbols_long}
 use Rattle.lxt_reader.specs.Changing.{chain_at}
 use Rattle.lxt_reader.specs.declared.changes.Chain.{Chain}
 use Rattle.lxt_reader.proofs.ChangeWays.{Chained, chain_of_fine}
-use Rattle.lxt_reader.proofs.ValueWays.{latest_asks, latest_fine, visited_fits, readies}
+use Rattle.lxt_reader.proofs.ValueWays.{chain_there, latest_fine, visited_fits, readies}
 use Rattle.lxt_column.specs.Listing.{Rooted}
 
 -- ---- how many symbols a value has
@@ -113,7 +113,7 @@ module _ (s : List ℕ) (t : Tables) (file_fine : file_refusal s ≡ 0) (e : t �
   latest : (o ≡ latest_at s time (chain_of s (sync_of s (root_of s f)))) × (visited ≡ visited_in s time (chain_of s (sync_of s (root_of s f))))
   latest =
       let here = rw er at found in
-      latest_found s time P (sync_of s (root_of s f)) o visited limit (latest_asks s f time (chain s t file_fine e f below) (chained s t file_fine e f below)).1 here
+      latest_found s time P (sync_of s (root_of s f)) o visited limit (chain_there s f (chain s t file_fine e f below) (chained s t file_fine e f below)) here
 
   pub item_visited : visited ≡ visited_at s (root_of s f) time
   unfolding visited_at

@@ -14,6 +14,7 @@ ghost use Rattle.lxt_column.specs.Listing.{Listed, Rooted, Forgotten, Remembered
 
 use lxt_format::{Kind, Value};
 use lxt_tables::{Tables, geometry};
+use lxt_values::entries::TimeTable;
 use lxt_values::times::Found;
 use lxt_values::{times, value};
 
@@ -128,7 +129,8 @@ pub fn put_all(
     ensures bits_after { bits.new ≡ onto (column_bits file.now time facilities.now) bits.old }
     ensures records_after { records.new ≡ onto (column_records file.now time lent 0 facilities.now) records.old }
 {
-    let end = times::limit_at(file, t.times as usize, t.time_count, t.wide_times, time);
+    let table = TimeTable::new(file, t.times as usize, t.time_count, t.wide_times);
+    let end = table.limit_at(time);
     let mut start: usize = 0;
     let mut visited: u64 = 0;
     for (i, &facility) in facilities.iter().enumerate() {
