@@ -36,14 +36,12 @@ use Rattle.lxt_chains.specs.Reading.{Ready, Readable}
 use Rattle.lxt_chains.specs.Tree.{Tree, Blank, Holding}
 use Rattle.lxt_format.specs.declared.Pair.{Pair}
 use Rattle.lxt_chains.proofs.RootLaws.{pending_roots, root_changes}
-use Rattle.lxt_values.specs.Times as Ti
 use Rattle.lxt_values.specs.Entries.{EntryAt, Latest}
 use Rattle.lxt_values.specs.declared.entries.Entry.{Entry}
 use Rattle.lxt_print.specs.Lines.{decimal, signed_decimal, space, newline, change_word, value_text, change_line}
 use Rattle.lxt_print.specs.Placing.{Opened}
 use Rattle.lxt_print.specs.Stepping.{left, all_left, Waiting, Last, Timed, next_line}
 use Rattle.lxt_print.proofs.LineLaws.{opened_known}
-use Rattle.lxt_print.proofs.ValueLaws.{times_there}
 
 -- ---- the next line
 
@@ -113,9 +111,6 @@ no_changes s (f ∷ fs) h =
 module _ (s : List ℕ) (t : Tables) (w : Opened s t) where
   pub no_entries : t.time_count ≡ 0 → (e : Entry) → Last s e
   no_entries z e = let k = opened_known s t w in record { latest = λ h. absurd (omega (arith, k.time_count_lem)) }
-
-  pub last_asks : (t.time_count ≡ 0 → ⊥) → Ti.Times s t.times t.time_count t.wide_times × (0 < t.time_count)
-  last_asks n = (times_there s t w, omega arith)
 
   pub last_is : (e : Entry) → EntryAt s e.number e.position e.time → e.number + 1 ≡ t.time_count → Last s e
   last_is e a q = let k = opened_known s t w in record { latest = λ h o. record { here = a; later = λ j b c. absurd (omega (arith, k.time_count_lem)) } }
@@ -202,8 +197,8 @@ module _ (s : List ℕ) (t : Tables) (w : Opened s t) (m : ℕ) (nodes : List �
       pub number_small : f < 4294967296
       number_small = let b = number_below in let k = (opened_known s t w).few in omega arith
 
-      pub down_asks : (e : Entry) → Timed s (drop m nodes) e → Ti.Times s t.times t.time_count t.wide_times × Latest s o e.number e.position e.time
-      down_asks e v = (times_there s t w, rw eo (v.latest positive))
+      pub down_asks : (e : Entry) → Timed s (drop m nodes) e → Latest s o e.number e.position e.time
+      down_asks e v = rw eo (v.latest positive)
 
       -- its line is put, and the others are left
       pub stepped : (nodes' : List ℕ) → Tree m nodes' → drop m nodes' ≡ offsets_after s 1 (drop m nodes) → (e : Entry) → Latest s o e.number e.position e.time

@@ -10,8 +10,7 @@ use crate::lines;
 use lxt_chains::next::take_highest;
 use lxt_chains::{roots, tree, whole};
 use lxt_tables::Tables;
-use lxt_values::entries;
-use lxt_values::entries::Entry;
+use lxt_values::entries::{Entry, TimeTable};
 
 // All changes are left: the leaves of the tree hold where each root's chain starts.
 pub fn start(file: &[u8], t: Tables, nodes: &mut [u32], m: usize)
@@ -36,7 +35,8 @@ pub fn last_entry(file: &[u8], t: Tables) -> Entry
             time: 0,
         };
     }
-    entries::last(file, t.times as usize, t.time_count, t.wide_times)
+    let times = TimeTable::new(file, t.times as usize, t.time_count, t.wide_times);
+    times.last()
 }
 
 // The length of a line that was put, and the entry of the time table that gave its time.
@@ -63,14 +63,8 @@ pub fn next(
 {
     let taken = take_highest(file, nodes, m)?;
     let o = taken.offset;
-    let entry = entries::down(
-        file,
-        t.times as usize,
-        t.time_count,
-        t.wide_times,
-        entry,
-        o as usize,
-    );
+    let times = TimeTable::new(file, t.times as usize, t.time_count, t.wide_times);
+    let entry = times.down(entry, o as usize);
     let size = lines::change(file, t, taken.number as u32, o, entry.time, out);
     Some(Line { size, entry })
 }
