@@ -217,6 +217,7 @@ fn decide(
     ensures { Decides (Faulty file.now pending.old widths.old kinds.old) result }
 {
     let mut w = Window { from: 0, to: 0 };
+    // down to the window of the highest change that is left, not a count
     loop {
         let high = window::highest(pending) as usize;
         if high == 0 {

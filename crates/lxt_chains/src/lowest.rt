@@ -54,6 +54,7 @@ pub fn lowest(file: &[u8], c: Chains) -> u32
         low: 0,
         high: c.facilities,
     };
+    // by halves, not a count
     while b.low + 1 < b.high {
         b = halved(file, c, b);
     }

@@ -41,6 +41,7 @@ fn print(
     requires { Lent name.old nodes.old line.old × (0 < length out.old) }
 {
     let mut left = printing::begin(file, name, nodes, line);
+    // until no line is left or a write fails, not a count
     loop {
         let filled = printing::fill(file, left, name, nodes, line, out);
         if rt.write_all(&out[..filled.size]).is_err() {

@@ -205,6 +205,7 @@ pub fn fill(
 {
     let mut left = start;
     let mut put = 0;
+    // until no line is left or no room, not a count
     loop {
         let p = put_part(line, left.at, left.size, out, put);
         left.at += p - put;

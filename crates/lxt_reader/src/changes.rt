@@ -41,6 +41,7 @@ fn on_chain(file: &[u8], start: usize, o: usize) -> bool
     ensures { result ≡ any (eqb o) (chain_of file.now start) }
 {
     let mut p = start;
+    // a chain of offsets, not a count
     while p != 0 {
         if o == p {
             return true;
