@@ -21,8 +21,9 @@ pub struct Plan {
 fn values_allowed(count: usize, initial: u8, timescale: i8) -> bool
     ensures { result ≡ (leb count most_facilities && (timescale_allowed timescale && leb initial 8)) }
 {
-    (count <= Summary::MOST_FACILITIES as usize)
-        & (lxt_layout::timescale_is_allowed(timescale) & (initial <= 8))
+    count <= Summary::MOST_FACILITIES as usize
+        && lxt_layout::timescale_is_allowed(timescale)
+        && initial <= 8
 }
 
 fn measure_changes(
