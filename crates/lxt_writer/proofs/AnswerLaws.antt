@@ -22,7 +22,7 @@ use Rattle.lxt_layout.specs.declared.Places.{Places}
 use Rattle.lxt_layout.specs.Layout.{PlacesFor}
 use Rattle.lxt_layout.proofs.WholeLaws.{file_long}
 use Rattle.lxt_writer.specs.declared.plan.Plan.{Plan}
-use Rattle.lxt_writer.specs.Plan.{PlanFound, Planned, FileAsked}
+use Rattle.lxt_writer.specs.Plan.{PlanFound, Planned}
 
 module _ (facilities : List (List ℕ)) (names : List ℕ) (changes : List (List ℕ)) (values : List ℕ) (initial : ℕ) (timescale : ℤ) (out : List ℕ) where
   -- 24: there is no plan, since the input is not allowed
@@ -59,17 +59,6 @@ module _ (facilities : List (List ℕ)) (names : List ℕ) (changes : List (List
           (rw (plan.allowed, no), rw (plan.allowed, no))
 
       module _ (room : p.length ≤ length out) where
-        -- the file can be put
-        pub file_asked : FileAsked facilities names changes values initial timescale r.sizes r.memory out
-        file_asked =
-            record {
-              allowed = plan.allowed;
-              sizes = plan.sizes;
-              bounded = plan.bounded;
-              memory_is = plan.memory;
-              room = λ q qf. let l = long p pf in let m = long q qf in omega arith;
-            }
-
         -- it is written
         pub answers_written : (out' : List ℕ) → out' ≡ onto (file_of (trace_of facilities names changes values initial timescale)) out
             → (given p.length ≡ write_asked facilities names changes values initial timescale (length out))
