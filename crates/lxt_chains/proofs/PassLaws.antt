@@ -15,7 +15,7 @@ use Rattle.lxt_format.specs.Basics.{◌unless◌, ◌or_else◌}
 use Rattle.lxt_format.specs.BasicsLaws.{on_test, or_either, and_both, neither, kept, was_given, was_refused}
 use Rattle.lxt_format.specs.Bytes.{byte_at, to_zero}
 use Rattle.lxt_format.specs.Sections.{changes_from, end_of}
-use Rattle.lxt_format.specs.Changes.{signal, command_of, data_at, command_allowed, symbol_size, packed_size, codes_allowed, padding_clean, data_size, data_allowed, change_end, fault_at}
+use Rattle.lxt_format.specs.Changes.{signal, command_of, data_at, command_allowed, symbol_size, packed_size, codes_allowed, data_size, data_allowed, change_end, fault_at}
 use Rattle.lxt_format.specs.declared.Kind.{Kind}
 use Rattle.lxt_format.specs.declared.Kind.TheVariants.{Bits, Integer, Real, Text}
 use Rattle.std.specs.Prelude.{Option, Some, None, is_some}

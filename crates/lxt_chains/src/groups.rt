@@ -218,11 +218,7 @@ fn decide(
 {
     let mut w = Window { from: 0, to: 0 };
     // down to the window of the highest change that is left, not a count
-    loop {
-        let high = window::highest(pending) as usize;
-        if high == 0 {
-            return false;
-        }
+    while let Some(high) = window::highest(pending) {
         if c.end <= high {
             return true;
         }
@@ -233,6 +229,7 @@ fn decide(
         };
         w = known;
     }
+    false
 }
 
 // The width of bits; 0 for the other kinds.

@@ -1,7 +1,5 @@
 use mathlib.Core.Path.{refl}
-use native.Mathlib.Omega.{arith}
 use Rattle.lxt_chains.proofs.GroupLaws.{settle_put, holder_width, holder_kinds, settle_added}
-use borrow.Author.Rules.{rules}
 use Rattle.lxt_chains.proofs.groups.settle.Goals as goal
 
 pub returns-in_default : goal.returns-in_default
