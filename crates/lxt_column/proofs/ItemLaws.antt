@@ -6,8 +6,7 @@ use mathlib.Core.List.{List}
 use lib.ListN.{length, length-replicate}
 use lib.IntN.{ℤ}
 use native.Mathlib.Omega.{arith}
-use borrow.Author.Tests.{ne_eqb, lt-ltb}
-use Rattle.lxt_format.specs.BasicsLaws.{on_zero}
+use borrow.Author.Tests.{lt-ltb}
 use Rattle.lxt_format.proofs.JudgeLaws.{accepted, root_sound}
 use Rattle.lxt_values.proofs.SoundChains.{chain_readable}
 use Rattle.lxt_format.specs.Limits.{widest_facility}
@@ -25,7 +24,8 @@ use Rattle.lxt_tables.specs.Asked.{Sync}
 use Rattle.lxt_tables.specs.declared.Tables.{Tables}
 use Rattle.lxt_tables.proofs.TablesLaws.{Known, tables_known, entry_allowed, root_in, root_plain, width_most}
 use Rattle.lxt_values.specs.Times as Ti
-use Rattle.lxt_values.specs.Times.{Limit, Readable, first_below, visited_to}
+use Rattle.lxt_values.specs.Times.{Limit, Readable, found_at, first_below, visited_to}
+use Rattle.std.specs.Prelude.{Option, Some, None}
 use Rattle.lxt_values.specs.Value.{Readies, Shows, start_content, content_from}
 use Rattle.lxt_values.proofs.TimeLaws.{latest_found}
 use Rattle.lxt_values.proofs.StartLaws.{content_at_lem}
@@ -38,21 +38,20 @@ use Rattle.lxt_column.specs.Listing.{Rooted}
 
 -- ---- how many symbols a value has
 
-long_by : (s : List ℕ) (end : ℕ) (order : List ℕ) (kind : Kind) (msb lsb code o room : ℕ)
-    → ((o ≡ 0 → ⊥) → Readies s end order (facts_by kind msb lsb).kind (facts_by kind msb lsb).width o room)
-    → length (written (content_from s code (facts_by kind msb lsb).kind (facts_by kind msb lsb).width o)) ≡ (facts_by kind msb lsb).width
+long_by : (s : List ℕ) (end : ℕ) (order : List ℕ) (kind : Kind) (msb lsb code : ℕ) (latest : Option ℕ) (room : ℕ)
+    → ((o : ℕ) → latest ≡ Some o → Readies s end order (facts_by kind msb lsb).kind (facts_by kind msb lsb).width o room)
+    → length (written (content_from s code (facts_by kind msb lsb).kind (facts_by kind msb lsb).width latest)) ≡ (facts_by kind msb lsb).width
 unfolding facts_by content_from start_content content_by written
-long_by s end order Bits msb lsb code o room ready =
+long_by s end order Bits msb lsb code None room ready = length-replicate (width_between msb lsb) (symbol_of code)
+long_by s end order Bits msb lsb code (Some o) room ready =
     let width : ℕ = width_between msb lsb in
-    on_zero o (λ z. rw z (length-replicate width (symbol_of code)))
-    (λ p. let n : o ≡ 0 → ⊥ = omega arith in simp (ne_eqb o 0 n) (symbols_long s width o (bits_drawn s end order Bits width o room (ready n) refl).0))
-long_by s end order Integer msb lsb code o room ready =
-    on_zero o (λ z. rw z (length-replicate 32 (symbol_of code)))
-    (λ p. let n : o ≡ 0 → ⊥ = omega arith in simp (ne_eqb o 0 n) (symbols_long s 32 o (integer_drawn s end order Integer 32 o room (ready n) refl).0))
-long_by s end order Real msb lsb code o room ready =
-    on_zero o (λ z. rw z) (λ p. let n : o ≡ 0 → ⊥ = omega arith in simp (ne_eqb o 0 n))
-long_by s end order Text msb lsb code o room ready =
-    on_zero o (λ z. rw z) (λ p. let n : o ≡ 0 → ⊥ = omega arith in simp (ne_eqb o 0 n))
+    symbols_long s width o (bits_drawn s end order Bits width o room (ready o refl) refl).0
+long_by s end order Integer msb lsb code None room ready = length-replicate 32 (symbol_of code)
+long_by s end order Integer msb lsb code (Some o) room ready = symbols_long s 32 o (integer_drawn s end order Integer 32 o room (ready o refl) refl).0
+long_by s end order Real msb lsb code None room ready = refl
+long_by s end order Real msb lsb code (Some o) room ready = refl
+long_by s end order Text msb lsb code None room ready = refl
+long_by s end order Text msb lsb code (Some o) room ready = refl
 
 -- ---- a facility of an accepted file
 
@@ -98,19 +97,19 @@ module _ (s : List ℕ) (t : Tables) (file_fine : file_refusal s ≡ 0) (e : t �
   unfolding facts_of own_facts
   written_width time =
       let way = chain_of s (sync_of s (root_of s f)) in
-      let o : ℕ = latest_at s time way in
-      let ready : (o ≡ 0 → ⊥) → Readies s t.end t.order (facts_of s f).kind (facts_of s f).width o (facts_of s f).width =
-      λ some. readies s f chain chained o (facts_of s f).width
-      (latest_fine s f time chain chained o (visited_in s time way) (refl, refl) some) (omega arith) in
-      let is : content_from s (initial_of s) (facts_of s f).kind (facts_of s f).width o ≡ content_at s (root_of s f) time =
-      content_at_lem s (root_of s f) time o (unfold change_at in refl) in
-      rw (← is) (long_by s _ _ (kind_of_flags (flags_of s (root_of s f))) (msb_of s (root_of s f)) (lsb_of s (root_of s f)) (initial_of s) o _ ready)
+      let latest : Option ℕ = found_at (latest_at s time way) in
+      let ready : (o : ℕ) → latest ≡ Some o → Readies s t.end t.order (facts_of s f).kind (facts_of s f).width o (facts_of s f).width =
+      λ o e. readies s f chain chained o (facts_of s f).width
+      (latest_fine s f time chain chained latest (visited_in s time way) (refl, refl) o e) (omega arith) in
+      let is : content_from s (initial_of s) (facts_of s f).kind (facts_of s f).width latest ≡ content_at s (root_of s f) time =
+      content_at_lem s (root_of s f) time latest (unfold change_at in refl) in
+      rw (← is) (long_by s _ _ (kind_of_flags (flags_of s (root_of s f))) (msb_of s (root_of s f)) (lsb_of s (root_of s f)) (initial_of s) latest _ ready)
 
 -- ---- its latest change at a time, by the limit of the time
 
 module _ (s : List ℕ) (t : Tables) (file_fine : file_refusal s ≡ 0) (e : t ≡ tables_of s) (f : ℕ) (below : f < facility_count s) (root : ℕ) (er : root ≡ root_of s f)
-    (time : ℤ) (P : ℕ) (limit : Limit s time P) (o visited : ℕ) (found : (o ≡ first_below P (chain_of s (sync_of s root))) × (visited ≡ visited_to P (chain_of s (sync_of s root)))) where
-  latest : (o ≡ latest_at s time (chain_of s (sync_of s (root_of s f)))) × (visited ≡ visited_in s time (chain_of s (sync_of s (root_of s f))))
+    (time : ℤ) (P : ℕ) (limit : Limit s time P) (o : Option ℕ) (visited : ℕ) (found : (o ≡ found_at (first_below P (chain_of s (sync_of s root)))) × (visited ≡ visited_to P (chain_of s (sync_of s root)))) where
+  latest : (o ≡ found_at (latest_at s time (chain_of s (sync_of s (root_of s f))))) × (visited ≡ visited_in s time (chain_of s (sync_of s (root_of s f))))
   latest =
       let here = rw er at found in
       latest_found s time P (sync_of s (root_of s f)) o visited limit (chain_there s f (chain s t file_fine e f below) (chained s t file_fine e f below)) here
@@ -138,7 +137,7 @@ module _ (s : List ℕ) (t : Tables) (file_fine : file_refusal s ≡ 0) (e : t �
         rw same_facts
         (record {
           enough = enough;
-          ready = λ some. readies s f c w o room (latest_fine s f time c w o visited latest some) enough;
+          ready = λ p e. readies s f c w p room (latest_fine s f time c w o visited latest p e) enough;
         })
 
     -- and is the value at the time
@@ -180,7 +179,7 @@ times_ask s t file_fine e =
 
 -- ---- an item that was found and whose facts are known
 
-pub record Found (s : List ℕ) (t : Tables) (time : ℤ) (f : ℕ) (facts : Facts) (o visited : ℕ) : Type 0 where
+pub record Found (s : List ℕ) (t : Tables) (time : ℤ) (f : ℕ) (facts : Facts) (o : Option ℕ) (visited : ℕ) : Type 0 where
   pub width_is : facts.width ≡ (facts_of s f).width
   pub shows : (room : ℕ) → (facts_of s f).width ≤ room → Shows s t.end t.order facts.kind facts.width o room
   pub content : content_from s t.initial facts.kind facts.width o ≡ content_at s (root_of s f) time
@@ -190,7 +189,7 @@ pub record Found (s : List ℕ) (t : Tables) (time : ℤ) (f : ℕ) (facts : Fac
   pub long : length (written (content_at s (root_of s f) time)) ≡ (facts_of s f).width
 
 pub item_found : (s : List ℕ) (t : Tables) (file_fine : file_refusal s ≡ 0) (e : t ≡ tables_of s) (f : ℕ) (below : f < facility_count s) (root : ℕ) → root ≡ root_of s f
-    → (time : ℤ) (P : ℕ) → Limit s time P → (o visited : ℕ) → (o ≡ first_below P (chain_of s (sync_of s root))) × (visited ≡ visited_to P (chain_of s (sync_of s root)))
+    → (time : ℤ) (P : ℕ) → Limit s time P → (o : Option ℕ) (visited : ℕ) → (o ≡ found_at (first_below P (chain_of s (sync_of s root)))) × (visited ≡ visited_to P (chain_of s (sync_of s root)))
     → (facts : Facts) → facts ≡ own_facts s root → Found s t time f facts o visited
 item_found s t file_fine e f below root er time P limit o visited found facts ef =
     record {

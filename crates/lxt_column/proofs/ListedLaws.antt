@@ -19,7 +19,8 @@ use Rattle.lxt_tables.specs.Stage.{Geometry}
 use Rattle.lxt_tables.specs.Asked.{Resolved}
 use Rattle.lxt_tables.specs.declared.Tables.{Tables}
 use Rattle.lxt_tables.proofs.TablesLaws.{tables_known}
-use Rattle.lxt_values.specs.Times.{Limit, first_below, visited_to}
+use Rattle.lxt_values.specs.Times.{Limit, found_at, first_below, visited_to}
+use Rattle.std.specs.Prelude.{Option}
 use Rattle.lxt_column.specs.Listing.{Listed, Rooted}
 use Rattle.lxt_column.proofs.ItemLaws.{root_known, facts_ask, width_small, Found, item_found}
 use Rattle.lxt_column.proofs.ListLaws.{total_most}
@@ -62,8 +63,8 @@ module _ {s : List ℕ} {t : Tables} {asked roots : List ℕ} (w : Listed s t as
     pub rooted : Rooted s t (get_or roots number 0)
     rooted = root_known s t w.0.accepted w.0.tables number (below_at s t asked w.0 i below) (get_or roots number 0) root_is
 
-    pub listed_found : {time : ℤ} {P : ℕ} → Limit s time P → {o visited : ℕ}
-        → (o ≡ first_below P (chain_of s (sync_of s (get_or roots number 0)))) × (visited ≡ visited_to P (chain_of s (sync_of s (get_or roots number 0))))
+    pub listed_found : {time : ℤ} {P : ℕ} → Limit s time P → {o : Option ℕ} {visited : ℕ}
+        → (o ≡ found_at (first_below P (chain_of s (sync_of s (get_or roots number 0))))) × (visited ≡ visited_to P (chain_of s (sync_of s (get_or roots number 0))))
         → {facts : Facts} → facts ≡ own_facts s (get_or roots number 0) → Found s t time number facts o visited
     listed_found limit found known =
         item_found s t w.0.accepted w.0.tables number (below_at s t asked w.0 i below) (get_or roots number 0) root_is _ _ limit _ _ found _ known

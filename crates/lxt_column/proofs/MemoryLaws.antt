@@ -1,18 +1,21 @@
 -- The laws of what is remembered of roots.
 use Prim.Native.Nat.{ℕ, zero, suc, ◌+◌, ◌*◌, ◌/◌, ◌%◌, ◌≤◌, ◌<◌}
-use mathlib.Core.Path.{◌≡◌, ◌∙◌}
+use mathlib.Core.Path.{◌≡◌, ◌∙◌, ap}
 use mathlib.Core.List.{List}
 use lib.ListN.{length, get_or, set, replicate, length-set, length-replicate, get_or-replicate}
 use lib.Seq.{get_or-set_same, get_or-set_other}
-use lib.Dec.{lit≤}
+use lib.Dec.{eqb, lit≤}
 use native.Mathlib.Omega.{arith}
 use native.Mathlib.Decide.{ℕ_discrete, dec_le}
-use borrow.Author.Tests.{lt-ltb, le-ltb}
+use borrow.Author.Tests.{lt-ltb, le-ltb, eq-eqb, ne_eqb}
 use Rattle.lxt_format.specs.BasicsLaws.{on_zero}
 use Rattle.lxt_format.specs.Geometry.{sync_of}
 use Rattle.lxt_format.specs.Changes.{previous_of, chain_of}
 use Rattle.lxt_format.proofs.ChangesLaws.{previous_lt, chain_none, chain_more}
-use Rattle.lxt_values.specs.Times.{first_below, visited_to}
+use Rattle.std.specs.Prelude.{Option, not, unwrap_or}
+use Rattle.std.specs.Bool.{then_some}
+use Rattle.lxt_values.specs.Times.{found_at, first_below, visited_to}
+use Rattle.lxt_values.proofs.TimeLaws.{found_number}
 use Rattle.lxt_column.specs.Listing.{unknown, Forgotten, Remembered}
 
 -- ---- what is found on a chain that starts at o, and how many changes are visited, is at most o
@@ -76,26 +79,39 @@ remember s end known w root below o v eo ev small =
           ];
     }
 
+-- an offset that is kept as a number
+offset_again : (n : ℕ) → then_some (not (eqb n 0)) n ≡ found_at n
+unfolding found_at
+offset_again n = on_zero n (λ z. simp (eq-eqb n 0 z)) (λ p. let some : n ≡ 0 → ⊥ = omega arith in simp (ne_eqb n 0 some))
+
 -- what is remembered is answered
 pub remembered : {s : List ℕ} {end : ℕ} {known : List ℕ} → Remembered s end known → {root : ℕ} → root < length known → (get_or known root 0 ≡ unknown → ⊥)
-    → ((get_or known root 0 / 0x1_0000_0000 ≡ first_below end (chain_of s (sync_of s root))) × (get_or known root 0 % 0x1_0000_0000 ≡ visited_to end (chain_of s (sync_of s root)))) × Remembered s end known
-remembered w {root} below n = (w.right root below n, w)
+    → ((then_some (not (eqb (get_or known root 0 / 0x1_0000_0000) 0)) (get_or known root 0 / 0x1_0000_0000) ≡ found_at (first_below end (chain_of s (sync_of s root))))
+    × (get_or known root 0 % 0x1_0000_0000 ≡ visited_to end (chain_of s (sync_of s root))))
+    × Remembered s end known
+remembered {known = known} w {root} below n =
+    let all = w.right root below n in
+    ((offset_again (get_or known root 0 / 0x1_0000_0000) ∙ ap found_at all.0, all.1), w)
 
 -- a chain that starts at a number of 32 bits
-module _ (s : List ℕ) (end from : ℕ) (small : from < 0x1_0000_0000) (o v : ℕ) (found : (o ≡ first_below end (chain_of s from)) × (v ≡ visited_to end (chain_of s from))) where
+module _ (s : List ℕ) (end from : ℕ) (small : from < 0x1_0000_0000) (offset : Option ℕ) (v : ℕ) (found : (offset ≡ found_at (first_below end (chain_of s from))) × (v ≡ visited_to end (chain_of s from)))
+    (o : ℕ) (number : o ≡ unwrap_or offset 0) where
+  offset_is : o ≡ first_below end (chain_of s from)
+  offset_is = number ∙ found_number found.0
+
   pub visited_small : v < 0x1_0000_0000
   visited_small = omega (arith, found.1, (found_most s end from).1)
 
   pub offset_fits : o * 0x1_0000_0000 < 0x1_0000_0000_0000_0000
-  offset_fits = omega (arith, found.0, (found_most s end from).0)
+  offset_fits = omega (arith, offset_is, (found_most s end from).0)
 
   pub word_fits : o * 0x1_0000_0000 + v < 0x1_0000_0000_0000_0000
-  word_fits = omega (arith, found.0, (found_most s end from).0, visited_small)
+  word_fits = omega (arith, offset_is, (found_most s end from).0, visited_small)
 
 -- what was found is answered, and remembered
 pub followed : {s : List ℕ} {end : ℕ} {known : List ℕ} → Remembered s end known → {root : ℕ} → root < length known → {from : ℕ} → from ≡ sync_of s root → from < 0x1_0000_0000
-    → {o v : ℕ} → (o ≡ first_below end (chain_of s from)) × (v ≡ visited_to end (chain_of s from))
-    → ((o ≡ first_below end (chain_of s (sync_of s root))) × (v ≡ visited_to end (chain_of s (sync_of s root)))) × Remembered s end (set known root (o * 0x1_0000_0000 + v))
-followed {s} {end} {known} w {root} below {from} e small {o} {v} found =
-    let here : (o ≡ first_below end (chain_of s (sync_of s root))) × (v ≡ visited_to end (chain_of s (sync_of s root))) = rw e at found in
-    (here, remember s end known w root below o v here.0 here.1 (visited_small s end from small o v found))
+    → {offset : Option ℕ} {v : ℕ} → (offset ≡ found_at (first_below end (chain_of s from))) × (v ≡ visited_to end (chain_of s from)) → {o : ℕ} → o ≡ unwrap_or offset 0
+    → ((offset ≡ found_at (first_below end (chain_of s (sync_of s root)))) × (v ≡ visited_to end (chain_of s (sync_of s root)))) × Remembered s end (set known root (o * 0x1_0000_0000 + v))
+followed {s} {end} {known} w {root} below {from} e small {offset} {v} found {o} number =
+    let here : (offset ≡ found_at (first_below end (chain_of s (sync_of s root)))) × (v ≡ visited_to end (chain_of s (sync_of s root))) = rw e at found in
+    (here, remember s end known w root below o v (number ∙ found_number here.0) here.1 (visited_small s end from small offset v found o number))

@@ -7,10 +7,11 @@ use Rattle.lxt_format.specs.Buffers.{placed, part_from, part_back, part_long, pa
 use Rattle.lxt_format.specs.Values.{Content}
 use Rattle.lxt_format.specs.Questions.{written, holding_bits}
 use Rattle.lxt_format.specs.declared.Kind.{Kind}
+use Rattle.std.specs.Prelude.{Option}
 use Rattle.lxt_values.specs.Value.{Shows}
 
 module _ (buffer : List ℕ) (at : ℕ) where
-  pub part_shows : (s : List ℕ) (end : ℕ) (order : List ℕ) (kind : Kind) (width o : ℕ) → Shows s end order kind width o (length buffer - at)
+  pub part_shows : (s : List ℕ) (end : ℕ) (order : List ℕ) (kind : Kind) (width : ℕ) (o : Option ℕ) → Shows s end order kind width o (length buffer - at)
       → Shows s end order kind width o (length (part_from buffer at))
   part_shows s end order kind width o h = rw (part_long buffer at) h
 

@@ -18,6 +18,7 @@ use Rattle.lxt_format.specs.Answers.{shown}
 use Rattle.lxt_format.specs.Questions.{written, widths_of, column_bits, record_by, column_records, column_visited}
 use Rattle.lxt_format.specs.declared.Facts.{Facts}
 use Rattle.lxt_tables.specs.declared.Tables.{Tables}
+use Rattle.std.specs.Prelude.{Option}
 use Rattle.lxt_values.specs.Value.{content_from, Shows}
 use Rattle.lxt_column.specs.Listing.{Remembered}
 use Rattle.lxt_column.proofs.ItemLaws.{Found}
@@ -72,7 +73,7 @@ module _ {s : List ℕ} {time : ℤ} {lent : ℕ} {asked bits₀ : List ℕ} {re
       pub record_fits : i < length records
       record_fits = omega (arith, w.records_long, fits.1)
 
-      module _ {t : Tables} {facts : Facts} {o count : ℕ} (found : Found s t time number facts o count) where
+      module _ {t : Tables} {facts : Facts} {o : Option ℕ} {count : ℕ} (found : Found s t time number facts o count) where
         pub item_asks : (start ≤ length bits) × Shows s t.end t.order facts.kind facts.width o (length bits - start)
         item_asks = (omega (arith, width_fits), found.shows (length bits - start) (omega (arith, width_fits)))
 

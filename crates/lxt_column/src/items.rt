@@ -8,7 +8,7 @@ ghost use Rattle.lxt_format.specs.Values.{source_by};
 ghost use Rattle.lxt_format.specs.Answers.{shown, value_shown};
 ghost use Rattle.lxt_format.specs.Questions.{written, record_by, widths_of, column_bits, column_records, column_visited};
 ghost use Rattle.lxt_tables.specs.Asked.{Resolved};
-ghost use Rattle.lxt_values.specs.Times.{first_below, visited_to};
+ghost use Rattle.lxt_values.specs.Times.{found_at, first_below, visited_to};
 ghost use Rattle.lxt_values.specs.Value.{content_from, Shows};
 ghost use Rattle.lxt_column.specs.Listing.{Listed, Rooted, Forgotten, Remembered, undriven, record_from};
 
@@ -22,23 +22,24 @@ use lxt_values::{times, value};
 pub const UNKNOWN: u64 = 0xFFFF_FFFF_FFFF_FFFF;
 
 // The first change of a root below the limit `end`. Its chain is followed once, however often it is asked for:
-// `known` then holds the offset, times 2^32, and how many changes were visited.
+// `known` then holds the offset, or 0, times 2^32, and how many changes were visited.
 fn latest_of(file: &[u8], t: Tables, end: usize, root: u32, known: &mut [u64]) -> Found
     requires { Rooted file.now t root × Remembered file.now end known.old }
-    ensures offset_value { (result.offset ≡ first_below end (chain_of file.now (sync_of file.now root))) × (result.visited ≡ visited_to end (chain_of file.now (sync_of file.now root))) }
+    ensures offset_value { (result.offset ≡ found_at (first_below end (chain_of file.now (sync_of file.now root)))) × (result.visited ≡ visited_to end (chain_of file.now (sync_of file.now root))) }
     ensures remembered { Remembered file.now end known.new }
 {
     let place = root as usize;
     let word = known[place];
     if word != UNKNOWN {
+        let offset = (word / 0x1_0000_0000) as usize;
         return Found {
-            offset: (word / 0x1_0000_0000) as usize,
+            offset: (offset != 0).then_some(offset),
             visited: (word % 0x1_0000_0000) as usize,
         };
     }
     let from = geometry::sync_of(file, t.sync as usize, t.facilities, root);
     let found = times::first_below(file, from as usize, end);
-    known[place] = found.offset as u64 * 0x1_0000_0000 + found.visited as u64;
+    known[place] = found.offset.unwrap_or(0) as u64 * 0x1_0000_0000 + found.visited as u64;
     found
 }
 
@@ -80,14 +81,13 @@ fn record_of(kind: Kind, value: Value, start: usize, lent: usize) -> [u64; 4]
     }
 }
 
-// The record of a facility whose latest change is at `o`, or that has none where `o` is 0; its symbols go into the
-// bits from `start` on.
+// The record of a facility by its latest change, at `o`, if there is one; its symbols go into the bits from `start` on.
 fn item_at(
     file: &[u8],
     t: Tables,
     kind: Kind,
     width: u32,
-    o: usize,
+    o: Option<usize>,
     lent: usize,
     start: usize,
     bits: &mut [u8],

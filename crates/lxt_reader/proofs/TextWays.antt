@@ -22,7 +22,9 @@ use Rattle.lxt_format.specs.LentText.{zero_end}
 use Rattle.lxt_format.proofs.LentTextLaws.{text_other, text_start, text_driven, text_inside, part_inside_lem}
 use Rattle.lxt_format.specs.declared.Kind.{Kind}
 use Rattle.lxt_format.specs.declared.Kind.TheVariants.{Text}
-use Rattle.std.specs.Prelude.{Result, Ok, Err}
+use Rattle.std.specs.Prelude.{Result, Ok, Err, Option, Some, None}
+use Rattle.lxt_values.specs.Times.{found_at}
+use Rattle.lxt_values.proofs.TimeLaws.{found_is, none_found}
 use Rattle.lxt_format.specs.declared.TextPlace.{TextPlace}
 use Rattle.lxt_format.specs.declared.TextPlace.TheVariants.{File, Lent, OtherKind}
 use Rattle.lxt_format.specs.declared.refusal.Refusal.{Refusal}
@@ -62,35 +64,38 @@ module _ (s : List ℕ) (f : ℕ) (t : ℤ) (lent : ℕ) (c : Chain) (w : Chaine
   pub text_another : (c.facts.kind ≡ Text → ⊥) → given other_kind ≡ text_asked s f t lent
   text_another k = says other_kind (text_other s (root_of s f) t lent (λ e. k (own_kind _ refl ∙ e)))
 
-  module _ (e : c.facts.kind ≡ Text) (o visited : ℕ) (found : (o ≡ latest_at s t (chain_of s c.start)) × (visited ≡ visited_in s t (chain_of s c.start))) where
+  module _ (e : c.facts.kind ≡ Text) (o : Option ℕ) (visited : ℕ) (found : (o ≡ found_at (latest_at s t (chain_of s c.start))) × (visited ≡ visited_in s t (chain_of s c.start))) where
     text_kind : (own_facts s (root_of s f)).kind ≡ Text
     text_kind = sym (own_kind _ refl) ∙ e
 
-    at_change : o ≡ change_at s (root_of s f) t
+    at_change : o ≡ found_at (change_at s (root_of s f) t)
     at_change = change_is s f t c w o visited found
 
-    pub text_lent : o ≡ 0 → given (lent_text lent) ≡ text_asked s f t lent
-    text_lent z = says (lent_text lent) (text_start s (root_of s f) t text_kind lent (sym at_change ∙ z))
+    pub text_lent : o ≡ None → given (lent_text lent) ≡ text_asked s f t lent
+    text_lent z = says (lent_text lent) (text_start s (root_of s f) t text_kind lent (none_found (sym at_change ∙ z)))
 
-    module _ (some : o ≡ 0 → ⊥) where
-      place_is : in_file (data_at s o) (text_length s c.tables.end o) ≡ text_at s (root_of s f) t lent
+    module _ (p : ℕ) (some : o ≡ Some p) where
+      there : (p ≡ change_at s (root_of s f) t) × (change_at s (root_of s f) t ≡ 0 → ⊥)
+      there = found_is (sym at_change ∙ some)
+
+      place_is : in_file (data_at s p) (text_length s c.tables.end p) ≡ text_at s (root_of s f) t lent
       place_is =
           let k = tables_are s f c w in
-          rw (at_change, k.end) (sym (text_driven s (root_of s f) t text_kind lent (λ z. some (at_change ∙ z))))
+          rw (there.0, k.end) (sym (text_driven s (root_of s f) t text_kind lent there.1))
 
-      pub text_there : TextThere s c.tables.end o
+      pub text_there : TextThere s c.tables.end p
       text_there =
           let k = tables_are s f c w in
-          let inside = text_inside s f t w.fine text_kind (λ z. some (at_change ∙ z)) in
-          let low : data_at s o + to_zero (slice (data_at s o) c.tables.end s) + 1 ≤ end_of s = rw (at_change, k.end) inside in
+          let inside = text_inside s f t w.fine text_kind there.1 in
+          let low : data_at s p + to_zero (slice (data_at s p) c.tables.end s) + 1 ≤ end_of s = rw (there.0, k.end) inside in
           record {
-            start = omega (arith, (latest_fine s f t c w o visited found some).before, k.end_high, k.end);
+            start = omega (arith, (latest_fine s f t c w o visited found p some).before, k.end_high, k.end);
             within = omega (arith, k.end_high);
             small = omega (arith, low, k.end_high, k.end, k.long);
           }
 
-      pub text_found : (p : TextPlace) → p ≡ File (data_at s o) (text_length s c.tables.end o) → text_says (Ok p) ≡ text_asked s f t lent
-      text_found p e = rw e (says _ (sym place_is))
+      pub text_found : (place : TextPlace) → place ≡ File (data_at s p) (text_length s c.tables.end p) → text_says (Ok place) ≡ text_asked s f t lent
+      text_found place e = rw e (says _ (sym place_is))
 
 -- ---- the part
 

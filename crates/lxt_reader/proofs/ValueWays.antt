@@ -25,14 +25,15 @@ use Rattle.lxt_format.specs.Judge.{signal_by, signal_of, fault_from}
 use Rattle.lxt_format.proofs.VisitedLaws.{visited_most}
 use Rattle.lxt_values.specs.Reals.{order_places}
 use Rattle.lxt_values.specs.Times as Ti
-use Rattle.lxt_values.specs.Times.{Readable}
+use Rattle.lxt_values.specs.Times.{Readable, found_at}
+use Rattle.lxt_values.proofs.TimeLaws.{found_is}
 use Rattle.lxt_format.proofs.ValuesLaws.{latest_change_sound}
 use Rattle.lxt_values.proofs.SoundChains.{chain_readable}
 use Rattle.lxt_tables.proofs.TablesLaws.{Known, tables_known, entry_allowed, root_in, root_plain, width_most, has_real_lem, real_order}
 use Rattle.lxt_changes.specs.Padding.{Inside}
 use Rattle.lxt_changes.proofs.PaddingLaws.{sound_inside}
 use Rattle.lxt_format.specs.Limits.{widest_facility}
-use Rattle.std.specs.Prelude.{Err}
+use Rattle.std.specs.Prelude.{Err, Option, Some}
 use Rattle.lxt_format.specs.declared.refusal.Refusal.{Refusal}
 use Rattle.lxt_format.specs.declared.refusal.Refusal.TheVariants.{Room}
 use Rattle.lxt_reader.specs.Changing.{chain_at}
@@ -132,8 +133,8 @@ module _ (s : List ℕ) (f o : ℕ) (buffer : List ℕ) where
 -- ---- the latest change at a time
 
 module _ (s : List ℕ) (f : ℕ) (t : ℤ) (c : Chain) (w : Chained s f c) where
-  module _ (o visited : ℕ) (found : (o ≡ latest_at s t (chain_of s c.start)) × (visited ≡ visited_in s t (chain_of s c.start))) where
-    pub change_is : o ≡ change_at s (root_of s f) t
+  module _ (o : Option ℕ) (visited : ℕ) (found : (o ≡ found_at (latest_at s t (chain_of s c.start))) × (visited ≡ visited_in s t (chain_of s c.start))) where
+    pub change_is : o ≡ found_at (change_at s (root_of s f) t)
     unfolding change_at
     change_is = found.0 ∙ rw w.start
 
@@ -147,11 +148,11 @@ module _ (s : List ℕ) (f : ℕ) (t : ℤ) (c : Chain) (w : Chained s f c) wher
         let k = tables_are s f c w in
         omega (arith, visited_is, visited_most s f t w.fine, k.end_high, k.end, k.long)
 
-    pub latest_fine : (o ≡ 0 → ⊥) → Sound s (signal_by s c.facts) o
+    pub latest_fine : (p : ℕ) → o ≡ Some p → Sound s (signal_by s c.facts) p
     unfolding fault_from facts_of
-    latest_fine some =
-        rw (found.0, w.facts)
-        (latest_change_sound s _ c.start w.fault t (λ z. some (found.0 ∙ z)))
+    latest_fine p e =
+        let there = found_is (sym found.0 ∙ e) in
+        rw (there.0, w.facts) (latest_change_sound s _ c.start w.fault t there.1)
 
 -- ---- the value at a time
 
@@ -175,8 +176,8 @@ module _ (s : List ℕ) (f : ℕ) (t : ℤ) (buffer : List ℕ) where
         let g : length buffer < (facts_of s f).width = rw w.facts at short in
         tells 21 (rw (w.fine, lt-leb _ _ g)) (eqb-false 21 0 refl)
 
-    module _ (room : c.facts.width ≤ length buffer) (o visited : ℕ) (found : (o ≡ latest_at s t (chain_of s c.start)) × (visited ≡ visited_in s t (chain_of s c.start))) where
-      at_change : o ≡ change_at s (root_of s f) t
+    module _ (room : c.facts.width ≤ length buffer) (o : Option ℕ) (visited : ℕ) (found : (o ≡ found_at (latest_at s t (chain_of s c.start))) × (visited ≡ visited_in s t (chain_of s c.start))) where
+      at_change : o ≡ found_at (change_at s (root_of s f) t)
       at_change = change_is s f t c w o visited found
 
       value_is : (content : Content) → content ≡ content_at s (root_of s f) t → (v : Shown) (after : List ℕ)
@@ -191,7 +192,7 @@ module _ (s : List ℕ) (f : ℕ) (t : ℤ) (buffer : List ℕ) where
       value_shows =
           record {
             enough = room;
-            ready = λ some. readies s f c w o (length buffer) (latest_fine s f t c w o visited found some) room;
+            ready = λ p e. readies s f c w p (length buffer) (latest_fine s f t c w o visited found p e) room;
           }
 
       pub value_given : (v : Shown) (after : List ℕ) → v ≡ shown (content_from s c.tables.initial c.facts.kind c.facts.width o)

@@ -35,11 +35,10 @@ pub fn place_at(file: &[u8], facility: u32, time: i64, text: &[u8]) -> Result<Te
     };
     let t = chain.tables;
     let times = TimeTable::new(file, t.times as usize, t.time_count, t.wide_times);
-    let found = times.latest(chain.start as usize, time);
-    if found.offset == 0 {
-        return Ok(TextPlace::Lent { length: text.len() });
+    match times.latest(chain.start as usize, time).offset {
+        Some(o) => Ok(text_of(file, t.end, o)),
+        None => Ok(TextPlace::Lent { length: text.len() }),
     }
-    Ok(text_of(file, t.end, found.offset))
 }
 
 // The text itself, a part of the file or the whole lent text; empty where the facility is of another kind or

@@ -2,6 +2,7 @@
 use Prim.Native.Nat.{ℕ, suc, ◌+◌, ◌-◌, ◌≤◌, ◌<◌, ◌%◌}
 use mathlib.Core.Path.{◌≡◌, ◌∙◌, ap}
 use mathlib.Core.List.{List}
+use Rattle.std.specs.Prelude.{Option}
 use lib.IntN.{ℤ, pos, negsuc}
 use native.Mathlib.Decide.{dec_le}
 use native.Mathlib.Omega.{arith}
@@ -13,7 +14,7 @@ use Rattle.lxt_format.specs.BiasedTimes.{bias, biased, unbiased}
 use Rattle.lxt_format.proofs.BiasedTimesLaws.{unbiased_biased}
 use Rattle.lxt_format.specs.Changes.{chain_of}
 use Rattle.lxt_format.specs.Values.{latest_at, visited_in}
-use Rattle.lxt_values.specs.Times.{Limit}
+use Rattle.lxt_values.specs.Times.{Limit, found_at}
 
 module _ (t : ℤ) (f : SFits w64 t) where
   back : to_z w64 (of_z w64 t) ≡ t
@@ -55,8 +56,8 @@ module _ (s : List ℕ) (t : ℤ) (f : SFits w64 t) where
   pub limit_asked : (P : ℕ) → Limit s (to_z w64 (of_z w64 t)) P → Limit s t P
   limit_asked P h = rw (back t f) at h
 
-  pub latest_at_lem : (r visited from : ℕ)
-      → (r ≡ latest_at s (to_z w64 (of_z w64 t)) (chain_of s from)) × (visited ≡ visited_in s (to_z w64 (of_z w64 t)) (chain_of s from))
-      → (r ≡ latest_at s t (chain_of s from)) × (visited ≡ visited_in s t (chain_of s from))
+  pub latest_at_lem : (r : Option ℕ) (visited from : ℕ)
+      → (r ≡ found_at (latest_at s (to_z w64 (of_z w64 t)) (chain_of s from))) × (visited ≡ visited_in s (to_z w64 (of_z w64 t)) (chain_of s from))
+      → (r ≡ found_at (latest_at s t (chain_of s from))) × (visited ≡ visited_in s t (chain_of s from))
   latest_at_lem r visited from h =
-      (h.0 ∙ ap (λ z. latest_at s z (chain_of s from)) (back t f), h.1 ∙ ap (λ z. visited_in s z (chain_of s from)) (back t f))
+      (h.0 ∙ ap (λ z. found_at (latest_at s z (chain_of s from))) (back t f), h.1 ∙ ap (λ z. visited_in s z (chain_of s from)) (back t f))

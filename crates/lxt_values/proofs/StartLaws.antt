@@ -1,20 +1,22 @@
 -- The laws of what a facility shows at a time: before its first change, and by its latest one.
 use mathlib.Core.Logic.{◌⊎◌, inl, inr}
-use Rattle.std.specs.Prelude.{if◌then◌else◌}
+use Rattle.std.specs.Prelude.{Option}
 use Prim.Native.Nat.{ℕ}
-use mathlib.Core.Path.{◌≡◌, refl, ◌∙◌, ap}
+use mathlib.Core.Path.{◌≡◌, refl, ◌∙◌}
 use mathlib.Core.List.{List, ◌++◌}
 use lib.ListN.{drop, replicate, length-replicate}
 use lib.IntN.{ℤ}
-use lib.Dec.{eqb}
-use borrow.Author.Tests.{ne_eqb}
+use native.Mathlib.Omega.{arith}
+use borrow.Author.Tests.{ne_eqb, eq-eqb}
+use Rattle.lxt_format.specs.BasicsLaws.{on_zero}
 use Rattle.lxt_format.specs.Sections.{initial_of}
 use Rattle.lxt_format.specs.Geometry.{own_facts}
-use Rattle.lxt_format.specs.Values.{bits, symbol_of, content_by, content_of, change_at, initial_by, content_at}
-use Rattle.lxt_format.specs.Answers.{Shown, bits_of, nothing, shown}
+use Rattle.lxt_format.specs.Values.{bits, symbol_of, content_of, change_at, initial_by, content_at}
+use Rattle.lxt_format.specs.Answers.{bits_of, nothing, shown}
 use Rattle.lxt_format.specs.Questions.{written, holding_bits}
 use Rattle.lxt_format.specs.declared.Kind.{Kind}
 use Rattle.lxt_format.specs.declared.Kind.TheVariants.{Bits, Integer, Real, Text}
+use Rattle.lxt_values.specs.Times.{found_at}
 use Rattle.lxt_values.specs.Value.{start_content, content_from}
 
 -- ---- before the first change
@@ -46,17 +48,10 @@ start_is s Text width = refl
 -- ---- by the latest change
 
 -- the value at a time, by the change that it is of
-pub content_at_lem : (s : List ℕ) (f : ℕ) (t : ℤ) (o : ℕ) → o ≡ change_at s f t → content_from s (initial_of s) (own_facts s f).kind (own_facts s f).width o ≡ content_at s f t
-unfolding content_from content_at content_of
-content_at_lem s f t o e = rw (← e) (ap (λ start. if eqb o 0 then start else content_by s (own_facts s f).kind (own_facts s f).width o) (start_is s (own_facts s f).kind (own_facts s f).width))
-
-module _ (s : List ℕ) (code : ℕ) (kind : Kind) (width o : ℕ) (v : Shown) (before after : List ℕ) where
-  pub by_start : o ≡ 0 → (v ≡ shown (start_content kind width code)) × (after ≡ holding_bits (start_content kind width code) before)
-      → (v ≡ shown (content_from s code kind width o)) × (after ≡ holding_bits (content_from s code kind width o) before)
-  unfolding content_from
-  by_start e h = rw e h
-
-  pub by_change : (o ≡ 0 → ⊥) → (v ≡ shown (content_by s kind width o)) × (after ≡ holding_bits (content_by s kind width o) before)
-      → (v ≡ shown (content_from s code kind width o)) × (after ≡ holding_bits (content_from s code kind width o) before)
-  unfolding content_from
-  by_change n h = simp (ne_eqb o 0 n) h
+pub content_at_lem : (s : List ℕ) (f : ℕ) (t : ℤ) (o : Option ℕ) → o ≡ found_at (change_at s f t)
+    → content_from s (initial_of s) (own_facts s f).kind (own_facts s f).width o ≡ content_at s f t
+unfolding found_at content_from content_at content_of
+content_at_lem s f t o e =
+    let n = change_at s f t in
+    rw e
+    (on_zero n (λ z. simp (eq-eqb n 0 z) (start_is s (own_facts s f).kind (own_facts s f).width)) (λ p. let some : n ≡ 0 → ⊥ = omega arith in simp (ne_eqb n 0 some)))

@@ -3,6 +3,8 @@ use Prim.Native.Nat.{ℕ, zero, suc, ◌+◌, ◌≤◌, ◌<◌}
 use mathlib.Core.Path.{◌≡◌, refl, sym, ◌∙◌, ap}
 use mathlib.Core.Bool.{Bool, true, false}
 use mathlib.Core.List.{List, [], ◌∷◌}
+use Rattle.std.specs.Prelude.{Option, Some, None, unwrap_or}
+use Rattle.std.proofs.lemmas.Option.{none-some, same_Some}
 use lib.ListN.{length, get_or}
 use lib.IntN.{ℤ, pos}
 use lib.Signed.{mag, le_z}
@@ -20,7 +22,7 @@ use Rattle.lxt_format.specs.Changes.{data_at, previous_of, chain_within, chain_o
 use Rattle.lxt_format.proofs.ChangesLaws.{previous_lt, chain_none, chain_more}
 use Rattle.lxt_format.specs.Values.{latest_at, visited_in}
 use Rattle.lxt_format.proofs.VisitedLaws.{none_visited, visited_passed, visited_answered}
-use Rattle.lxt_values.specs.Times.{Times, Limit, Readable, change, first_below, visited_to}
+use Rattle.lxt_values.specs.Times.{Times, Limit, Readable, change, found_at, first_below, visited_to}
 use Rattle.lxt_values.specs.Entries.{EntryAt}
 use Rattle.lxt_values.proofs.EntryLaws.{table, some_entry, tells}
 
@@ -178,6 +180,35 @@ latest_passed : (s : List ℕ) (t : ℤ) (o : ℕ) (os : List ℕ) → le_z (tim
 unfolding latest_at
 latest_passed s t o os e = rw e
 
+-- ---- an offset that was looked for
+
+-- of none
+pub found_none : {n : ℕ} → 0 ≡ n → None ≡ found_at n
+unfolding found_at
+found_none e = rw (← e)
+
+-- of a change
+pub found_some : {o n : ℕ} → (o ≡ 0 → ⊥) → o ≡ n → Some o ≡ found_at n
+unfolding found_at
+found_some {o} n e = rw (← e) (simp (ne_eqb o 0 n))
+
+-- one that was found is that of a change
+pub found_is : {n o : ℕ} → found_at n ≡ Some o → (o ≡ n) × (n ≡ 0 → ⊥)
+unfolding found_at
+found_is {n} {o} e =
+    on_zero n (λ z. absurd (none-some o (simp (eq-eqb n 0 z) at e)))
+    (λ p. let some : n ≡ 0 → ⊥ = omega arith in (sym (same_Some n o (simp (ne_eqb n 0 some) at e)), some))
+
+-- as a number again
+pub found_number : {o : Option ℕ} {n : ℕ} → o ≡ found_at n → unwrap_or o 0 ≡ n
+unfolding found_at
+found_number {o} {n} e = on_zero n (λ z. rw e (simp (eq-eqb n 0 z) (sym z))) (λ p. let some : n ≡ 0 → ⊥ = omega arith in rw e (simp (ne_eqb n 0 some)))
+
+-- where none was found it is 0
+pub none_found : {n : ℕ} → found_at n ≡ None → n ≡ 0
+unfolding found_at
+none_found {n} e = on_zero n (λ z. z) (λ p. let some : n ≡ 0 → ⊥ = omega arith in absurd (none-some n (sym (simp (ne_eqb n 0 some) at e))))
+
 -- ---- the first change below a limit
 
 -- the first change below the limit P from o on is the first from `from` on; `visited` changes lie above o, and with those that are visited from o on they are all
@@ -193,11 +224,11 @@ falling_begun s P from r = record { readable = r; left = refl; counted = omega a
 
 module _ (s : List ℕ) (P from o visited : ℕ) (w : Falling s P from o visited) where
   -- the chain ends
-  pub chain_ended : o ≡ 0 → (0 ≡ first_below P (chain_of s from)) × (visited ≡ visited_to P (chain_of s from))
+  pub chain_ended : o ≡ 0 → (None ≡ found_at (first_below P (chain_of s from))) × (visited ≡ visited_to P (chain_of s from))
   unfolding first_below visited_to
   chain_ended e =
       let counted : visited + 0 ≡ visited_to P (chain_of s from) = rw (e, chain_none s) at w.counted in
-      ((rw (e, chain_none s) at w.left), omega (arith, counted))
+      (found_none (rw (e, chain_none s) at w.left), omega (arith, counted))
 
   module _ (n : o ≡ 0 → ⊥) where
     -- the change at o, and those before it
@@ -209,9 +240,9 @@ module _ (s : List ℕ) (P from o visited : ℕ) (w : Falling s P from o visited
     change_readable = head_readable (rw more at w.readable)
 
     -- a change below the limit
-    pub first_below_lem : o < P → (o ≡ first_below P (chain_of s from)) × (visited + 1 ≡ visited_to P (chain_of s from))
+    pub first_below_lem : o < P → (Some o ≡ found_at (first_below P (chain_of s from))) × (visited + 1 ≡ visited_to P (chain_of s from))
     unfolding first_below visited_to
-    first_below_lem h = (simp (more, lt-ltb o P h) at w.left, simp (more, lt-ltb o P h) at w.counted)
+    first_below_lem h = (found_some n (simp (more, lt-ltb o P h) at w.left), simp (more, lt-ltb o P h) at w.counted)
 
     -- a change that is not below it
     pub falling_turn : P ≤ o → (p : ℕ) → p ≡ previous_of s o → Falling s P from p (visited + 1)
@@ -280,9 +311,9 @@ module _ (s : List ℕ) (t : ℤ) (P : ℕ) (limit : Limit s t P) where
       ])
 
 -- by one whose limit was found
-pub latest_found : (s : List ℕ) (t : ℤ) (P from offset visited : ℕ) → Limit s t P → Readable s (chain_of s from)
-    → (offset ≡ first_below P (chain_of s from)) × (visited ≡ visited_to P (chain_of s from))
-    → (offset ≡ latest_at s t (chain_of s from)) × (visited ≡ visited_in s t (chain_of s from))
+pub latest_found : (s : List ℕ) (t : ℤ) (P from : ℕ) (offset : Option ℕ) (visited : ℕ) → Limit s t P → Readable s (chain_of s from)
+    → (offset ≡ found_at (first_below P (chain_of s from))) × (visited ≡ visited_to P (chain_of s from))
+    → (offset ≡ found_at (latest_at s t (chain_of s from))) × (visited ≡ visited_in s t (chain_of s from))
 latest_found s t P from offset visited limit r found =
     let l = latest_below s t P limit from from (omega arith) r in
-    (found.0 ∙ l.0, found.1 ∙ l.1)
+    (found.0 ∙ ap found_at l.0, found.1 ∙ l.1)

@@ -1,5 +1,5 @@
 -- What the functions on times ask of the file, and what they answer.
-use Rattle.std.specs.Prelude.{ℕ, suc, ◌+◌, ◌≤◌, ◌<◌, ◌≡◌, Bool, true, List, [], ◌∷◌, length, ℤ, ltb, if◌then◌else◌}
+use Rattle.std.specs.Prelude.{ℕ, suc, ◌+◌, ◌≤◌, ◌<◌, ◌≡◌, Bool, true, List, [], ◌∷◌, length, ℤ, ltb, eqb, if◌then◌else◌, Option, Some, None}
 use Rattle.std.specs.Int.Signed.{le_z}
 use Rattle.lxt_format.specs.Sections.{end_of, wide_times, times_at, time_count, times_size}
 use Rattle.lxt_format.specs.Times.{times_allowed, time_of}
@@ -22,6 +22,10 @@ pub record Limit (s : List ℕ) (t : ℤ) (P : ℕ) : Type 0 where
 pub data Readable (s : List ℕ) : List ℕ → Type 0 where
   no_change : Readable s []
   change : {o : ℕ} {os : List ℕ} → o < length s → data_at s o ≤ length s → Readable s os → Readable s (o ∷ os)
+
+-- the offset of a change that was looked for, where 0 is none
+unfoldable pub found_at : ℕ → Option ℕ
+found_at o = if eqb o 0 then None else Some o
 
 -- the first of the offsets that lies below P, or 0, and how many are visited to find it
 unfoldable pub first_below : ℕ → List ℕ → ℕ

@@ -1,5 +1,5 @@
 -- What reading a value asks.
-use Rattle.std.specs.Prelude.{ℕ, ◌≤◌, ◌≡◌, List, length, replicate, eqb, if◌then◌else◌}
+use Rattle.std.specs.Prelude.{ℕ, ◌≤◌, ◌≡◌, List, length, replicate, Option, Some, None}
 use Rattle.lxt_format.specs.Limits.{longest_file}
 use Rattle.lxt_format.specs.Sections.{changes_from, end_of}
 use Rattle.lxt_format.specs.Reals.{byte_order}
@@ -27,11 +27,12 @@ start_content Integer width code = bits (replicate width (symbol_of code))
 start_content Real width code = not_driven
 start_content Text width code = not_driven
 
--- what it shows by its latest change, at o, and before the first one where o is 0
-unfoldable pub content_from : List ℕ → ℕ → Kind → ℕ → ℕ → Content
-content_from s code kind width o = if eqb o 0 then start_content kind width code else content_by s kind width o
+-- what it shows by its latest change, and where there is none
+unfoldable pub content_from : List ℕ → ℕ → Kind → ℕ → Option ℕ → Content
+content_from s code kind width None = start_content kind width code
+content_from s code kind width (Some o) = content_by s kind width o
 
 -- room for the symbols, and such a change where there is one
-pub record Shows (s : List ℕ) (end : ℕ) (order : List ℕ) (kind : Kind) (width o room : ℕ) : Type 0 where
+pub record Shows (s : List ℕ) (end : ℕ) (order : List ℕ) (kind : Kind) (width : ℕ) (latest : Option ℕ) (room : ℕ) : Type 0 where
   pub enough : width ≤ room
-  pub ready : (o ≡ 0 → ⊥) → Readies s end order kind width o room
+  pub ready : (o : ℕ) → latest ≡ Some o → Readies s end order kind width o room

@@ -4,7 +4,7 @@ ghost use Rattle.lxt_format.specs.Times.{time_of};
 ghost use Rattle.lxt_format.specs.BiasedTimes.{biased, unbiased};
 ghost use Rattle.lxt_format.specs.Changes.{chain_of};
 ghost use Rattle.lxt_format.specs.Values.{latest_at, visited_in};
-ghost use Rattle.lxt_values.specs.Times.{Limit, Readable, first_below, visited_to};
+ghost use Rattle.lxt_values.specs.Times.{Limit, Readable, found_at, first_below, visited_to};
 
 use crate::entries::TimeTable;
 use lxt_changes::delta;
@@ -80,16 +80,16 @@ impl TimeTable<'_> {
     // falls, so that it is the first one below the limit.
     pub fn latest(self, from: usize, t: i64) -> Found
         requires { Readable self.file.now (chain_of self.file.now from) }
-        ensures { (result.offset ≡ latest_at self.entry.file.now t (chain_of self.entry.file.now from)) × (result.visited ≡ visited_in self.entry.file.now t (chain_of self.entry.file.now from)) }
+        ensures { (result.offset ≡ found_at (latest_at self.entry.file.now t (chain_of self.entry.file.now from))) × (result.visited ≡ visited_in self.entry.file.now t (chain_of self.entry.file.now from)) }
     {
         first_below(self.file, from, self.limit_at(t))
     }
 }
 
-// The offset of a change that was looked for, 0 where there is none, and how many changes were visited.
+// The offset of a change that was looked for, if there is one, and how many changes were visited.
 #[derive(Clone, Copy)]
 pub struct Found {
-    pub offset: usize,
+    pub offset: Option<usize>,
     pub visited: usize,
 }
 
@@ -97,7 +97,7 @@ pub struct Found {
 // visited, and all of the chain where there is none.
 pub fn first_below(file: &[u8], from: usize, end: usize) -> Found
     requires { Readable file.now (chain_of file.now from) }
-    ensures { (result.offset ≡ first_below end (chain_of file.now from)) × (result.visited ≡ visited_to end (chain_of file.now from)) }
+    ensures { (result.offset ≡ found_at (first_below end (chain_of file.now from))) × (result.visited ≡ visited_to end (chain_of file.now from)) }
 {
     let mut o = from;
     let mut visited: usize = 0;
@@ -105,9 +105,15 @@ pub fn first_below(file: &[u8], from: usize, end: usize) -> Found
     while o != 0 {
         visited += 1;
         if o < end {
-            return Found { offset: o, visited };
+            return Found {
+                offset: Some(o),
+                visited,
+            };
         }
         o = delta::previous(file, o);
     }
-    Found { offset: 0, visited }
+    Found {
+        offset: None,
+        visited,
+    }
 }

@@ -57,8 +57,8 @@ fn initial(kind: Kind, width: u32, code: u8, bits: &mut [u8]) -> Value
     }
 }
 
-// The value by the latest change, at `o`; what the facility shows before its first one where `o` is 0, by the code
-// of the initial symbol.
+// The value by the latest change, at `o`; where there is none, what the facility shows before its first one, by the
+// code of the initial symbol.
 pub fn at(
     file: &[u8],
     end: usize,
@@ -66,14 +66,14 @@ pub fn at(
     code: u8,
     kind: Kind,
     width: u32,
-    o: usize,
+    o: Option<usize>,
     bits: &mut [u8],
 ) -> Value
     requires { Shows file.now end order kind width o (length bits.old) }
     ensures { (value_shown result ≡ shown (content_from file.now code kind width o)) × (bits.new ≡ holding_bits (content_from file.now code kind width o) bits.old) }
 {
-    if o == 0 {
-        return initial(kind, width, code, bits);
+    match o {
+        Some(o) => read(file, end, order, kind, width, o, bits),
+        None => initial(kind, width, code, bits),
     }
-    read(file, end, order, kind, width, o, bits)
 }

@@ -16,20 +16,20 @@ returns-in_default c = text_another _ _ c.args.time _ _ (chained _ _ _ c.in_ok-c
 pub new-times-requires : goal.new-times-requires
 new-times-requires c = times_there _ _ _ (chained _ _ _ c.in_ok-chain.ensures)
 
-pub latest-found-requires : goal.latest-found-requires
-latest-found-requires c = rw c.new-times.ensures.same_file (chain_there _ _ _ (chained _ _ _ c.in_ok-chain.ensures))
-
-pub returns-then-found-eq0 : goal.returns-then-found-eq0
-returns-then-found-eq0 c =
-    let latest = latest_at_lem _ _ c.ranges.time _ _ _ (rw c.new-times.ensures.same_file at c.latest-found.ensures) in
-    text_lent _ _ _ _ _ (chained _ _ _ c.in_ok-chain.ensures) c.in-Text.is _ _ latest c.if-found-eq0.true
+pub latest-requires : goal.latest-requires
+latest-requires c = rw c.new-times.ensures.same_file (chain_there _ _ _ (chained _ _ _ c.in_ok-chain.ensures))
 
 pub text_of-requires : goal.text_of-requires
 text_of-requires c =
-    let latest = latest_at_lem _ _ c.ranges.time _ _ _ (rw c.new-times.ensures.same_file at c.latest-found.ensures) in
-    text_there _ _ _ 0 _ (chained _ _ _ c.in_ok-chain.ensures) c.in-Text.is _ _ latest c.if-found-eq0.false
+    let latest = latest_at_lem _ _ c.ranges.time _ _ _ (rw c.new-times.ensures.same_file at c.latest.ensures) in
+    text_there _ _ _ 0 _ (chained _ _ _ c.in_ok-chain.ensures) c.in-Text.is _ _ latest _ c.in-Some.is
 
-pub returns : goal.returns
-returns c =
-    let latest = latest_at_lem _ _ c.ranges.time _ _ _ (rw c.new-times.ensures.same_file at c.latest-found.ensures) in
-    text_found _ _ _ _ _ (chained _ _ _ c.in_ok-chain.ensures) c.in-Text.is _ _ latest c.if-found-eq0.false _ c.text_of.ensures
+pub returns-in-Some : goal.returns-in-Some
+returns-in-Some c =
+    let latest = latest_at_lem _ _ c.ranges.time _ _ _ (rw c.new-times.ensures.same_file at c.latest.ensures) in
+    text_found _ _ _ _ _ (chained _ _ _ c.in_ok-chain.ensures) c.in-Text.is _ _ latest _ c.in-Some.is _ c.text_of.ensures
+
+pub returns-in-None : goal.returns-in-None
+returns-in-None c =
+    let latest = latest_at_lem _ _ c.ranges.time _ _ _ (rw c.new-times.ensures.same_file at c.latest.ensures) in
+    text_lent _ _ _ _ _ (chained _ _ _ c.in_ok-chain.ensures) c.in-Text.is _ _ latest c.in-None.is

@@ -1,11 +1,13 @@
-use Rattle.lxt_values.proofs.StartLaws.{by_start, by_change}
+use Rattle.lxt_values.specs.Value.{content_from}
 use Rattle.lxt_values.proofs.value.at.Goals as goal
 
-pub returns-then-o-eq0 : goal.returns-then-o-eq0
-returns-then-o-eq0 c = by_start c.args.file.now _ _ _ _ _ _ _ c.if-o-eq0.true c.initial.ensures
-
 pub read-requires : goal.read-requires
-read-requires c = c.requires.ready c.if-o-eq0.false
+read-requires c = c.requires.ready _ c.in-Some.is
 
-pub returns : goal.returns
-returns c = by_change c.args.file.now _ _ _ _ _ _ _ c.if-o-eq0.false c.read.ensures
+pub returns-in-Some : goal.returns-in-Some
+unfolding content_from
+returns-in-Some c = rw c.in-Some.is c.read.ensures
+
+pub returns-in-None : goal.returns-in-None
+unfolding content_from
+returns-in-None c = rw c.in-None.is c.initial.ensures
