@@ -48,10 +48,10 @@ fn put_row(row: [u32; 5], out: &mut [u8], at: usize)
     ensures { out.new ≡ placed out.old at (geometry_bytes (facility_of [] row)) }
 {
     let kind = facilities::kind_of(row[KIND]);
-    put::four(out, at, 0);
-    put::four(out, at + 4, msb_of(kind, row[MSB]));
-    put::four(out, at + 8, lsb_of(kind, row[LSB]));
-    put::four(out, at + 12, flags_of(kind));
+    put::number::<4>(out, at, 0);
+    put::number::<4>(out, at + 4, msb_of(kind, row[MSB]));
+    put::number::<4>(out, at + 8, lsb_of(kind, row[LSB]));
+    put::number::<4>(out, at + 12, flags_of(kind));
 }
 
 // All facilities, from `at` on.
@@ -73,7 +73,7 @@ pub fn put_sync(last: &[u32], out: &mut [u8], at: usize)
 {
     let mut p = at;
     for offset in last {
-        put::four(out, p, *offset);
+        put::number::<4>(out, p, *offset);
         p += 4;
     }
 }

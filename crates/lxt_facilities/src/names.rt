@@ -62,9 +62,9 @@ fn put_name(names: &[u8], k: usize, at: usize, size: usize, out: &mut [u8], p: u
     requires { (k ≤ size) × (size ≤ 1023) × (at + size ≤ length names.now) × (p + 3 + (size - k) ≤ length out.old) }
     ensures { out.new ≡ placed out.old p (with_prefix k (part names.now at size)) }
 {
-    put::two(out, p, k as u32);
+    put::number::<2>(out, p, k as u32);
     put::copy(out, p + 2, names, at + k, at + size);
-    put::one(out, p + 2 + (size - k), 0);
+    put::number::<1>(out, p + 2 + (size - k), 0);
 }
 
 // All names, from `at` on.

@@ -76,7 +76,7 @@ pub fn put_header(out: &mut [u8])
     requires { 4 ≤ length out.old }
     ensures { out.new ≡ placed out.old 0 header }
 {
-    put::four(out, 0, 0x0138_0004);
+    put::number::<4>(out, 0, 0x0138_0004);
 }
 
 // The head of the names: count and memory.
@@ -84,8 +84,8 @@ pub fn put_names_head(out: &mut [u8], at: usize, count: u32, memory: u32)
     requires { at + 8 ≤ length out.old }
     ensures { out.new ≡ placed out.old at (words (count ∷ memory ∷ [])) }
 {
-    put::four(out, at, count);
-    put::four(out, at + 4, memory);
+    put::number::<4>(out, at, count);
+    put::number::<4>(out, at + 4, memory);
 }
 
 // The head of the times: count, first and last.
@@ -93,9 +93,9 @@ pub fn put_times_head(out: &mut [u8], at: usize, count: u32, first: u32, last: u
     requires { at + 12 ≤ length out.old }
     ensures { out.new ≡ placed out.old at (words (count ∷ first ∷ last ∷ [])) }
 {
-    put::four(out, at, count);
-    put::four(out, at + 4, first);
-    put::four(out, at + 8, last);
+    put::number::<4>(out, at, count);
+    put::number::<4>(out, at + 4, first);
+    put::number::<4>(out, at + 8, last);
 }
 
 // "timescale outside -21 to 2" is not allowed.
@@ -110,8 +110,8 @@ fn put_test(out: &mut [u8], at: usize)
     requires { at + 8 ≤ length out.old }
     ensures { out.new ≡ placed out.old at test_pattern }
 {
-    put::four(out, at, 0x6E86_1BF0);
-    put::four(out, at + 4, 0xF921_0940);
+    put::number::<4>(out, at, 0x6E86_1BF0);
+    put::number::<4>(out, at + 4, 0xF921_0940);
 }
 
 // The timescale and the initial symbol.
@@ -139,8 +139,8 @@ fn put_item(out: &mut [u8], at: usize, value: u32, tag: u32)
     requires { (at + 5 ≤ length out.old) × (tag < 256) }
     ensures { out.new ≡ placed out.old at (items_from tag (value ∷ [])) }
 {
-    put::four(out, at, value);
-    put::one(out, at + 4, tag);
+    put::number::<4>(out, at, value);
+    put::number::<1>(out, at + 4, tag);
 }
 
 // Items of rising tags from 1 on.
@@ -186,7 +186,7 @@ pub fn put_tail(out: &mut [u8], p: Places, real: bool)
 {
     let end = p.end;
     let last = end + 1 + 5 * item_count(real);
-    put::one(out, end, 0);
+    put::number::<1>(out, end, 0);
     put_list(out, end + 1, p, real);
-    put::one(out, last, 0xB4);
+    put::number::<1>(out, last, 0xB4);
 }

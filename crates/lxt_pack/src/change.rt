@@ -225,7 +225,7 @@ fn put_text(values: &[u8], start: usize, end: usize, delta: u32, out: &mut [u8],
 {
     let data = put_head(0, delta, out, at);
     put::copy(out, data, values, start, end);
-    put::one(out, data + (end - start), 0);
+    put::number::<1>(out, data + (end - start), 0);
     data + (end - start) + 1
 }
 

@@ -13,27 +13,6 @@ pub fn number<const N: usize>(out: &mut [u8], at: usize, x: u32)
     out[at..at + N].copy_from_slice(&x.to_be_bytes()[4 - N..]);
 }
 
-pub fn one(out: &mut [u8], at: usize, x: u32)
-    requires { at + 1 ≤ length out.old }
-    ensures { out.new ≡ placed out.old at (big_endian 1 x) }
-{
-    number::<1>(out, at, x);
-}
-
-pub fn two(out: &mut [u8], at: usize, x: u32)
-    requires { at + 2 ≤ length out.old }
-    ensures { out.new ≡ placed out.old at (big_endian 2 x) }
-{
-    number::<2>(out, at, x);
-}
-
-pub fn four(out: &mut [u8], at: usize, x: u32)
-    requires { at + 4 ≤ length out.old }
-    ensures { out.new ≡ placed out.old at (big_endian 4 x) }
-{
-    number::<4>(out, at, x);
-}
-
 // The bytes of a pool from `start` up to `end`.
 pub fn copy(out: &mut [u8], at: usize, pool: &[u8], start: usize, end: usize)
     requires { (start ≤ end) × (end ≤ length pool.now) × (at + (end - start) ≤ length out.old) }

@@ -113,8 +113,8 @@ fn put_entry(out: &mut [u8], e: Entry, gap: usize, at: usize, time: u32) -> Entr
     if !is_new(at, e.time, time) {
         return e;
     }
-    put::four(out, e.at, (at - e.position) as u32);
-    put::four(out, e.at + gap, time - e.time);
+    put::number::<4>(out, e.at, (at - e.position) as u32);
+    put::number::<4>(out, e.at + gap, time - e.time);
     Entry {
         at: e.at + 4,
         position: at,

@@ -12,8 +12,8 @@ copy-requires c = text_copy _ _ _ _ _ _ c.requires _ _ c.put_head-data.ensures.v
 pub overflow_add-data : goal.overflow_add-data
 overflow_add-data c = omega (arith, text_room _ _ _ _ _ _ c.requires _ c.put_head-data.ensures.value)
 
-pub one-requires : goal.one-requires
-one-requires c = omega (arith, text_room _ _ _ _ _ _ c.requires _ c.put_head-data.ensures.value)
+pub number-requires-clause-room : goal.number-requires-clause-room
+number-requires-clause-room c = omega (arith, text_room _ _ _ _ _ _ c.requires _ c.put_head-data.ensures.value)
 
 pub overflow_add-result : goal.overflow_add-result
 overflow_add-result c = omega (arith, text_room _ _ _ _ _ _ c.requires _ c.put_head-data.ensures.value)
@@ -25,4 +25,4 @@ pub returns : goal.returns
 returns c =
     let head = c.put_head-data.ensures in
     let text = c.copy.ensures in
-    text_put _ _ _ _ _ _ c.requires _ _ _ _ _ head.out_after head.value text c.one.ensures refl
+    text_put _ _ _ _ _ _ c.requires _ _ _ _ _ head.out_after head.value text c.number.ensures refl
