@@ -5,7 +5,7 @@ use native.Mathlib.Nat.{add-zero}
 use mathlib.Core.Path.{◌≡◌, refl, sym, ap, ◌∙◌}
 use mathlib.Core.Bool.{Bool, true, false, ◌&&◌, ◌||◌, or_assoc, or-false}
 use mathlib.Core.List.{List, [], ◌∷◌, ◌++◌, map}
-use lib.ListN.{length, get_or, drop, length-append, length-drop}
+use lib.ListN.{length, get_or, take, drop, length-append, length-drop}
 use lib.Seq.{slice, slice-cons, slice_empty, drop-cons, drop-drop, drop-length, length-slice}
 use lib.Dec.{leb, eqb}
 use native.Mathlib.Decide.{dec_le, ℕ_discrete}
@@ -24,6 +24,7 @@ use Rattle.lxt_written.specs.Stands.{length_big_endian}
 use Rattle.lxt_written.specs.TableSizes.{name_long}
 use Rattle.lxt_facilities.specs.Rows.{names_in, facilities_allowed, FacilitiesFound, with_prefix}
 use Rattle.lxt_facilities.proofs.FacilityLaws.{row_allowed, part_long}
+use Rattle.lxt_pack.proofs.PartLaws.{part_is}
 use Rattle.lxt_pack.proofs.PutLaws.{Filling, fill_begun, fill_turn, fill_ended}
 
 -- ---- the prefix that two names share
@@ -106,7 +107,7 @@ module _ {names : List ℕ} {before held at size most k : ℕ} (w : Comparing na
 
 -- a prefix length, the bytes after the prefix and a zero
 pub name_put : (names b : List ℕ) (k at size p : ℕ) → k ≤ size → at + size ≤ length names → p + 3 + (size - k) ≤ length b
-    → {b1 b2 b3 : List ℕ} → b1 ≡ placed b p (big_endian 2 k) → b2 ≡ placed b1 (p + 2) (slice (at + k) (at + size) names)
+    → {b1 b2 b3 : List ℕ} → b1 ≡ placed b p (big_endian 2 k) → b2 ≡ placed b1 (p + 2) (take (at + size - (at + k)) (drop (at + k) names))
     → b3 ≡ placed b2 (p + 2 + (size - k)) (big_endian 1 0) → b3 ≡ placed b p (with_prefix k (part names at size))
 unfolding part big_endian
 name_put names b k at size p h i r {b1} {b2} {b3} e1 e2 e3 =
@@ -117,8 +118,9 @@ name_put names b k at size p h i r {b1} {b2} {b3} e1 e2 e3 =
     let a = length-append s (0 ∷ []) in
     let all-long : length text ≡ 2 + length (s ++ (0 ∷ [])) = length-append (big_endian 2 k) (s ++ (0 ∷ [])) in
     let s0 : Filling b p text text b p = fill_begun b p text (omega arith) in
+    let e2' = e2 ∙ ap (λ t. placed b1 (p + 2) t) (part_is names (at + k) (at + size) (omega arith) i) in
     let s1 = fill_turn b p text (big_endian 2 k) (s ++ (0 ∷ [])) b p s0 b1 e1 (p + 2) refl in
-    let s2 = fill_turn b p text s (0 ∷ []) b1 (p + 2) s1 b2 e2 (p + 2 + (size - k)) (omega arith) in
+    let s2 = fill_turn b p text s (0 ∷ []) b1 (p + 2) s1 b2 e2' (p + 2 + (size - k)) (omega arith) in
     let s3 = fill_turn b p text (0 ∷ []) [] b2 (p + 2 + (size - k)) s2 b3 e3 (p + 2 + (size - k) + 1) refl in
     let rest : drop k (part names at size) ≡ s = drop-drop k at _ in
     fill_ended b p text b3 (p + 2 + (size - k) + 1) s3 ∙ ap (λ t. placed b p (big_endian 2 k ++ (t ++ (0 ∷ [])))) (sym rest)

@@ -63,7 +63,7 @@ fn put_name(names: &[u8], k: usize, at: usize, size: usize, out: &mut [u8], p: u
     ensures { out.new ≡ placed out.old p (with_prefix k (part names.now at size)) }
 {
     put::number::<2>(out, p, k as u32);
-    put::copy(out, p + 2, names, at + k, at + size);
+    put::copy(out, p + 2, &names[at + k..at + size]);
     put::number::<1>(out, p + 2 + (size - k), 0);
 }
 

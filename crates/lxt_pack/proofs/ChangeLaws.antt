@@ -9,7 +9,7 @@ use mathlib.Core.Bool.{true}
 use Rattle.std.proofs.Common.{◌⊎◌, inl, inr}
 use mathlib.Core.List.{List, [], ◌∷◌, ◌++◌, map}
 use lib.ListN.{length, get_or, take, set, length-append}
-use lib.Seq.{slice, length-slice, get_or-take, get_or-drop, set-get_or, get_or-set_other}
+use lib.Seq.{set-get_or, get_or-set_other}
 use lib.Dec.{ltb, eqb}
 use borrow.Author.Tests.{ltb-true, eqb-true, eq-eqb, ne_eqb}
 use Rattle.lxt_format.specs.Basics.{all}
@@ -85,18 +85,13 @@ head_put out at command delta k scale second third c d a ek Scales.three es et e
 -- ---- symbols
 
 -- without data nothing is put
-pub symbols_none : (v : List ℕ) (start end command : ℕ) (out : List ℕ) (at b : ℕ) → end ≤ length v → b ≡ symbol_size command → b ≡ 0
-    → (out ≡ placed out at (packed_symbols command (slice start end v))) × (at ≡ at + packed_size (symbol_size command) (end - start))
+pub symbols_none : (v : List ℕ) (command : ℕ) (out : List ℕ) (at b : ℕ) → b ≡ symbol_size command → b ≡ 0
+    → (out ≡ placed out at (packed_symbols command v)) × (at ≡ at + packed_size (symbol_size command) (length v))
 unfolding packed_symbols packed_size pack
-symbols_none v start end command out at b within e z =
+symbols_none v command out at b e z =
     let q : symbol_size command ≡ 0 = sym e ∙ z in
-    let n : (0 * (end - start) + 7) / 8 ≡ 0 = omega arith in
-    rw (length-slice start end v within, q, n) (sym (placed_none out at), sym (add-zero at))
-
-part_at : (v : List ℕ) (start end i : ℕ) → start ≤ i → i < end → get_or (slice start end v) (i - start) 0 ≡ get_or v i 0
-part_at v start end i h k =
-    let e : start + (i - start) ≡ i = omega arith in
-    get_or-drop start (take end v) (i - start) 0 ∙ rw e (get_or-take end v i 0 k)
+    let n : (0 * (length v) + 7) / 8 ≡ 0 = omega arith in
+    rw (q, n) (sym (placed_none out at), sym (add-zero at))
 
 -- the commands with data have symbols of 1, 2 or 4 bits
 sizes : (command : ℕ) → (symbol_size command ≡ 0 → ⊥) → Size (symbol_size command) × (command < 3)
@@ -114,39 +109,35 @@ sizes command some =
     ]
 
 -- symbols that a command with data holds can be packed
-pub pack_held : (v : List ℕ) (start end command : ℕ) (out : List ℕ) (at b : ℕ) → Held v start end command out at
-    → b ≡ symbol_size command → (b ≡ 0 → ⊥) → Packing v start end b out at
-pack_held v start end command out at b h e some =
+pub pack_held : (v : List ℕ) (command : ℕ) (out : List ℕ) (at b : ℕ) → Held v command out at
+    → b ≡ symbol_size command → (b ≡ 0 → ⊥) → Packing v b out at
+pack_held v command out at b h e some =
     let s = sizes command (λ z. some (e ∙ z)) in
-    let codes = held_codes Bits (slice start end v) command s.1 h.holds in
-    let long = length-slice start end v h.within in
+    let codes = held_codes Bits v command s.1 h.holds in
     record {
       holding =
           record {
             size = rw e s.0;
-            upto = h.upto;
-            within = h.within;
-            codes = λ i from below.
-                rw (e, ← part_at v start end i from below)
-                (ltb-true _ _ (all_at (λ x. ltb (code_of x) (2 ^ symbol_size command)) (slice start end v) (i - start) 0 codes (omega arith)));
-            known = λ i from below.
-                rw (← part_at v start end i from below) (code_small _ (all_at is_symbol (slice start end v) (i - start) 0 h.symbols (omega arith)));
+            upto = omega arith;
+            within = omega arith;
+            codes = λ i from below. rw e (ltb-true _ _ (all_at (λ x. ltb (code_of x) (2 ^ symbol_size command)) v i 0 codes below));
+            known = λ i from below. code_small _ (all_at is_symbol v i 0 h.symbols below);
           };
       room = rw e h.room;
     }
 
-pub symbols_put : (v : List ℕ) (start end command : ℕ) (out out' : List ℕ) (at b : ℕ) → end ≤ length v → b ≡ symbol_size command
-    → out' ≡ placed out at (pack b (packed_size b (end - start)) (map code_of (slice start end v)))
-    → out' ≡ placed out at (packed_symbols command (slice start end v))
+pub symbols_put : (v : List ℕ) (command : ℕ) (out out' : List ℕ) (at b : ℕ) → b ≡ symbol_size command
+    → out' ≡ placed out at (pack b (packed_size b (length v)) (map code_of v))
+    → out' ≡ placed out at (packed_symbols command v)
 unfolding packed_symbols
-symbols_put v start end command out out' at b within e h = h ∙ rw (e, length-slice start end v within)
+symbols_put v command out out' at b e h = h ∙ rw e
 
 -- ---- a change
 
 -- its length, by its parts
-module _ (kind : Kind) (v : List ℕ) (start end delta : ℕ) (out : List ℕ) (at : ℕ) (s : Sound kind v start end delta out at) where
-  pub sound_room : at + (1 + fewest_bytes delta) + length (data_for kind (slice start end v)) ≤ length out
-  sound_room = let e = length_change kind delta (slice start end v) in omega (arith, s.room)
+module _ (kind : Kind) (v : List ℕ) (delta : ℕ) (out : List ℕ) (at : ℕ) (s : Sound kind v delta out at) where
+  pub sound_room : at + (1 + fewest_bytes delta) + length (data_for kind v) ≤ length out
+  sound_room = let e = length_change kind delta v in omega (arith, s.room)
 
   -- the command byte and the delta leave the buffer as long as it was
   head_kept_lem : (one : List ℕ) (command : ℕ) → one ≡ placed out at (head_of command delta) → length one ≡ length out
@@ -156,9 +147,9 @@ module _ (kind : Kind) (v : List ℕ) (start end delta : ℕ) (out : List ℕ) (
       rw first (length_placed out at (head_of command delta) (omega arith))
 
   -- the command byte and the delta, and then the data
-  pub change_put : (one two : List ℕ) (command d : ℕ) (bytes : List ℕ) → command ≡ command_for kind (slice start end v) → bytes ≡ data_for kind (slice start end v)
+  pub change_put : (one two : List ℕ) (command d : ℕ) (bytes : List ℕ) → command ≡ command_for kind v → bytes ≡ data_for kind v
       → one ≡ placed out at (head_of command delta) → d ≡ at + (1 + fewest_bytes delta) → two ≡ placed one d bytes
-      → two ≡ placed out at (change_bytes kind delta (slice start end v))
+      → two ≡ placed out at (change_bytes kind delta v)
   unfolding head_of change_bytes
   change_put one two command d bytes ec eb first ed second =
       let long = head_long command delta in
@@ -169,168 +160,164 @@ module _ (kind : Kind) (v : List ℕ) (start end delta : ℕ) (out : List ℕ) (
       rw (← ec, ← eb) joined
 
   -- it ends after its data
-  pub change_ends : (r k : ℕ) → k ≡ length (data_for kind (slice start end v)) → r ≡ at + (1 + fewest_bytes delta) + k
-      → r ≡ at + length (change_bytes kind delta (slice start end v))
-  change_ends r k e h = let l = length_change kind delta (slice start end v) in omega arith
+  pub change_ends : (r k : ℕ) → k ≡ length (data_for kind v) → r ≡ at + (1 + fewest_bytes delta) + k
+      → r ≡ at + length (change_bytes kind delta v)
+  change_ends r k e h = let l = length_change kind delta v in omega arith
 
 -- ---- a change of bits
 
-module _ (v : List ℕ) (start end delta : ℕ) (out : List ℕ) (at : ℕ) (s : Sound Bits v start end delta out at) where
-  bits_width_lem : end - start ≡ s.width
-  bits_width_lem = sym (length-slice start end v s.part.within) ∙ value_length Bits s.width (slice start end v) refl s.allowed
+module _ (v : List ℕ) (delta : ℕ) (out : List ℕ) (at : ℕ) (s : Sound Bits v delta out at) where
+  bits_width_lem : length v ≡ s.width
+  bits_width_lem = value_length Bits s.width v refl s.allowed
 
-  pub bits_some : (0 < length (slice start end v)) × (all is_symbol (slice start end v) ≡ true)
+  pub bits_some : (0 < length v) × (all is_symbol v ≡ true)
   bits_some =
       let e = bits_width_lem in
-      let l = length-slice start end v s.part.within in
-      (omega (arith, s.wide.0), value_symbols Bits s.width (slice start end v) refl s.allowed)
+      (omega (arith, s.wide.0), value_symbols Bits s.width v refl s.allowed)
 
-  pub bits_head : (c : ℕ) → c ≡ command_for Bits (slice start end v) → HeadAsked c delta out at
+  pub bits_head : (c : ℕ) → c ≡ command_for Bits v → HeadAsked c delta out at
   bits_head c h =
       let e = h in
-      let b = command_bound Bits (slice start end v) in
+      let b = command_bound Bits v in
       record { command_small = omega arith; delta_small = s.delta_small; room = s.spare }
 
-  data_long : (c : ℕ) → c ≡ command_for Bits (slice start end v) → packed_size (symbol_size c) (end - start) ≡ length (data_for Bits (slice start end v))
+  data_long : (c : ℕ) → c ≡ command_for Bits v → packed_size (symbol_size c) (length v) ≡ length (data_for Bits v)
   unfolding data_for
   data_long c h =
-      rw h (sym (length_packed (command_for Bits (slice start end v)) (slice start end v) ∙ rw (length-slice start end v s.part.within)))
+      rw h (sym (length_packed (command_for Bits v) v))
 
-  pub bits_held : (c d : ℕ) (one : List ℕ) → c ≡ command_for Bits (slice start end v) → d ≡ at + (1 + fewest_bytes delta) → one ≡ placed out at (head_of c delta)
-      → Held v start end c one d
+  pub bits_held : (c d : ℕ) (one : List ℕ) → c ≡ command_for Bits v → d ≡ at + (1 + fewest_bytes delta) → one ≡ placed out at (head_of c delta)
+      → Held v c one d
   bits_held c d one h e first =
-      let l = head_kept_lem Bits v start end delta out at s one c first in
-      let r = sound_room Bits v start end delta out at s in
+      let l = head_kept_lem Bits v delta out at s one c first in
+      let r = sound_room Bits v delta out at s in
       let w = bits_width_lem in
       let k = data_long c h in
       record {
-        upto = s.part.upto;
-        within = s.part.within;
         most = omega (arith, s.wide.1);
-        symbols = value_symbols Bits s.width (slice start end v) refl s.allowed;
-        holds = rw h (command_holds Bits s.width (slice start end v) refl s.allowed);
+        symbols = value_symbols Bits s.width v refl s.allowed;
+        holds = rw h (command_holds Bits s.width v refl s.allowed);
         room = omega arith;
       }
 
-  pub bits_put : (c d r : ℕ) (one two : List ℕ) → c ≡ command_for Bits (slice start end v) → one ≡ placed out at (head_of c delta) → d ≡ at + (1 + fewest_bytes delta)
-      → two ≡ placed one d (packed_symbols c (slice start end v)) → r ≡ d + packed_size (symbol_size c) (end - start)
-      → Puts Bits (slice start end v) delta out at two r
+  pub bits_put : (c d r : ℕ) (one two : List ℕ) → c ≡ command_for Bits v → one ≡ placed out at (head_of c delta) → d ≡ at + (1 + fewest_bytes delta)
+      → two ≡ placed one d (packed_symbols c v) → r ≡ d + packed_size (symbol_size c) (length v)
+      → Puts Bits v delta out at two r
   unfolding data_for
   bits_put c d r one two h first e second last =
       record {
-        puts = change_put Bits v start end delta out at s one two c d (packed_symbols c (slice start end v)) h (rw h) first e second;
-        ends = change_ends Bits v start end delta out at s r (packed_size (symbol_size c) (end - start)) (data_long c h) (omega arith);
+        puts = change_put Bits v delta out at s one two c d (packed_symbols c v) h (rw h) first e second;
+        ends = change_ends Bits v delta out at s r (packed_size (symbol_size c) (length v)) (data_long c h) (omega arith);
       }
 
 -- ---- a real
 
-module _ (v : List ℕ) (start end delta : ℕ) (out : List ℕ) (at : ℕ) (s : Sound Real v start end delta out at) where
+module _ (v : List ℕ) (delta : ℕ) (out : List ℕ) (at : ℕ) (s : Sound Real v delta out at) where
   pub real_head : HeadAsked 0 delta out at
   real_head = record { command_small = omega arith; delta_small = s.delta_small; room = s.spare }
 
-  real_long : end - start ≡ length (data_for Real (slice start end v))
+  real_long : length v ≡ length (data_for Real v)
   unfolding data_for
-  real_long = sym (length-slice start end v s.part.within)
+  real_long = refl
 
-  pub real_room : (d : ℕ) → d ≡ at + (1 + fewest_bytes delta) → d + (end - start) ≤ length out
+  pub real_room : (d : ℕ) → d ≡ at + (1 + fewest_bytes delta) → d + length v ≤ length out
   real_room d e =
-      let r = sound_room Real v start end delta out at s in
+      let r = sound_room Real v delta out at s in
       let k = real_long in
       omega arith
 
   pub real_copy : (d : ℕ) (one : List ℕ) → d ≡ at + (1 + fewest_bytes delta) → one ≡ placed out at (head_of 0 delta)
-      → (start ≤ end) × (end ≤ length v) × (d + (end - start) ≤ length one)
+      → d + length v ≤ length one
   real_copy d one e first =
-      let l = head_kept_lem Real v start end delta out at s one 0 first in
+      let l = head_kept_lem Real v delta out at s one 0 first in
       let r = real_room d e in
-      (s.part.upto, s.part.within, omega arith)
+      omega arith
 
-  pub real_put : (d r : ℕ) (one two : List ℕ) → one ≡ placed out at (head_of 0 delta) → d ≡ at + (1 + fewest_bytes delta) → two ≡ placed one d (slice start end v)
-      → r ≡ d + (end - start) → Puts Real (slice start end v) delta out at two r
+  pub real_put : (d r : ℕ) (one two : List ℕ) → one ≡ placed out at (head_of 0 delta) → d ≡ at + (1 + fewest_bytes delta) → two ≡ placed one d v
+      → r ≡ d + length v → Puts Real v delta out at two r
   unfolding data_for command_for
   real_put d r one two first e second last =
       record {
-        puts = change_put Real v start end delta out at s one two 0 d (slice start end v) refl refl first e second;
-        ends = change_ends Real v start end delta out at s r (end - start) real_long (omega arith);
+        puts = change_put Real v delta out at s one two 0 d v refl refl first e second;
+        ends = change_ends Real v delta out at s r (length v) real_long (omega arith);
       }
 
 -- ---- a text
 
-module _ (v : List ℕ) (start end delta : ℕ) (out : List ℕ) (at : ℕ) (s : Sound Text v start end delta out at) where
+module _ (v : List ℕ) (delta : ℕ) (out : List ℕ) (at : ℕ) (s : Sound Text v delta out at) where
   pub text_head : HeadAsked 0 delta out at
   text_head = record { command_small = omega arith; delta_small = s.delta_small; room = s.spare }
 
-  text_long : end - start + 1 ≡ length (data_for Text (slice start end v))
+  text_long : length v + 1 ≡ length (data_for Text v)
   unfolding data_for
-  text_long = sym (length-append (slice start end v) (0 ∷ []) ∙ ap (λ k. k + 1) (length-slice start end v s.part.within))
+  text_long = sym (length-append v (0 ∷ []))
 
-  pub text_room : (d : ℕ) → d ≡ at + (1 + fewest_bytes delta) → d + (end - start) + 1 ≤ length out
+  pub text_room : (d : ℕ) → d ≡ at + (1 + fewest_bytes delta) → d + length v + 1 ≤ length out
   text_room d e =
-      let r = sound_room Text v start end delta out at s in
+      let r = sound_room Text v delta out at s in
       let k = text_long in
       omega arith
 
   pub text_copy : (d : ℕ) (one : List ℕ) → d ≡ at + (1 + fewest_bytes delta) → one ≡ placed out at (head_of 0 delta)
-      → (start ≤ end) × (end ≤ length v) × (d + (end - start) ≤ length one)
+      → d + length v ≤ length one
   text_copy d one e first =
-      let l = head_kept_lem Text v start end delta out at s one 0 first in let r = text_room d e in (s.part.upto, s.part.within, omega arith)
+      let l = head_kept_lem Text v delta out at s one 0 first in let r = text_room d e in omega arith
 
   pub text_put : (d r : ℕ) (one two three : List ℕ) → one ≡ placed out at (head_of 0 delta) → d ≡ at + (1 + fewest_bytes delta)
-      → two ≡ placed one d (slice start end v) → three ≡ placed two (d + (end - start)) (big_endian 1 0)
-      → r ≡ d + (end - start) + 1 → Puts Text (slice start end v) delta out at three r
+      → two ≡ placed one d v → three ≡ placed two (d + length v) (big_endian 1 0)
+      → r ≡ d + length v + 1 → Puts Text v delta out at three r
   unfolding data_for command_for
   text_put d r one two three first e second third last =
-      let l = head_kept_lem Text v start end delta out at s one 0 first in
-      let long = length-slice start end v s.part.within in
+      let l = head_kept_lem Text v delta out at s one 0 first in
       let room = text_room d e in
-      let place : d + (end - start) ≡ d + length (slice start end v) = omega arith in
-      let whole : three ≡ placed one d (slice start end v ++ (0 ∷ [])) =
-      third ∙ rw (second, place, one_byte 0 (omega arith)) (placed_more one d (slice start end v) (0 ∷ []) (omega arith)) in
+      let place : d + length v ≡ d + length v = omega arith in
+      let whole : three ≡ placed one d (v ++ (0 ∷ [])) =
+      third ∙ rw (second, place, one_byte 0 (omega arith)) (placed_more one d v (0 ∷ []) (omega arith)) in
       record {
-        puts = change_put Text v start end delta out at s one three 0 d (slice start end v ++ (0 ∷ [])) refl refl first e whole;
-        ends = change_ends Text v start end delta out at s r (end - start + 1) text_long (omega arith);
+        puts = change_put Text v delta out at s one three 0 d (v ++ (0 ∷ [])) refl refl first e whole;
+        ends = change_ends Text v delta out at s r (length v + 1) text_long (omega arith);
       }
 
 -- ---- an integer is written as bits are
 
-module _ (v : List ℕ) (start end delta : ℕ) (out : List ℕ) (at : ℕ) (s : Sound Integer v start end delta out at) where
-  integer_bits : (length (slice start end v) ≡ 32) × (all is_bit (slice start end v) ≡ true)
+module _ (v : List ℕ) (delta : ℕ) (out : List ℕ) (at : ℕ) (s : Sound Integer v delta out at) where
+  integer_bits : (length v ≡ 32) × (all is_bit v ≡ true)
   unfolding value_allowed
   integer_bits =
       let w : s.width ≡ 32 = s.wide in
-      let b = and_both (eqb (length (slice start end v)) s.width) (all is_bit (slice start end v)) s.allowed in
+      let b = and_both (eqb (length v) s.width) (all is_bit v) s.allowed in
       (eqb-true _ _ b.0 ∙ w, b.1)
 
-  same_change : change_bytes Integer delta (slice start end v) ≡ change_bytes Bits delta (slice start end v)
+  same_change : change_bytes Integer delta v ≡ change_bytes Bits delta v
   unfolding change_bytes data_for
-  same_change = let b = integer_bits in rw (integer_command (slice start end v) (omega arith) b.1)
+  same_change = let b = integer_bits in rw (integer_command v (omega arith) b.1)
 
-  pub integer_sound : Sound Bits v start end delta out at
+  pub integer_sound : Sound Bits v delta out at
   unfolding value_allowed
   integer_sound =
       let b = integer_bits in
       record {
-        part = s.part;
+        size = s.size;
         width = 32;
         wide = (omega arith, omega arith);
-        allowed = both_and (eqb (length (slice start end v)) 32) (all is_symbol (slice start end v)) (eq-eqb _ _ b.0) (bits_symbols (slice start end v) b.1);
+        allowed = both_and (eqb (length v) 32) (all is_symbol v) (eq-eqb _ _ b.0) (bits_symbols v b.1);
         room = rw (← same_change) s.room;
         spare = s.spare;
         delta_small = s.delta_small;
       }
 
-  pub integer_put : (two : List ℕ) (r : ℕ) → Puts Bits (slice start end v) delta out at two r → Puts Integer (slice start end v) delta out at two r
+  pub integer_put : (two : List ℕ) (r : ℕ) → Puts Bits v delta out at two r → Puts Integer v delta out at two r
   integer_put two r p = record { puts = rw same_change p.puts; ends = rw same_change p.ends }
 
 -- ---- by the kind
 
 -- bits and integers have symbols
-pub by_kind_sound : (kind : Kind) (v : List ℕ) (start end delta : ℕ) (out : List ℕ) (at : ℕ) → (kind ≡ Bits) ⊎ (kind ≡ Integer)
-    → Sound kind v start end delta out at → Sound Bits v start end delta out at
-by_kind_sound kind v start end delta out at (inl e) s = rw e at s
-by_kind_sound kind v start end delta out at (inr e) s = integer_sound v start end delta out at (rw e at s)
+pub by_kind_sound : (kind : Kind) (v : List ℕ) (delta : ℕ) (out : List ℕ) (at : ℕ) → (kind ≡ Bits) ⊎ (kind ≡ Integer)
+    → Sound kind v delta out at → Sound Bits v delta out at
+by_kind_sound kind v delta out at (inl e) s = rw e at s
+by_kind_sound kind v delta out at (inr e) s = integer_sound v delta out at (rw e at s)
 
-pub by_kind_put : (kind : Kind) (v : List ℕ) (start end delta : ℕ) (out : List ℕ) (at : ℕ) → (kind ≡ Bits) ⊎ (kind ≡ Integer)
-    → Sound kind v start end delta out at → (two : List ℕ) (r : ℕ) → Puts Bits (slice start end v) delta out at two r → Puts kind (slice start end v) delta out at two r
-by_kind_put kind v start end delta out at (inl e) s two r p = rw e p
-by_kind_put kind v start end delta out at (inr e) s two r p = rw e (integer_put v start end delta out at (rw e at s) two r p)
+pub by_kind_put : (kind : Kind) (v : List ℕ) (delta : ℕ) (out : List ℕ) (at : ℕ) → (kind ≡ Bits) ⊎ (kind ≡ Integer)
+    → Sound kind v delta out at → (two : List ℕ) (r : ℕ) → Puts Bits v delta out at two r → Puts kind v delta out at two r
+by_kind_put kind v delta out at (inl e) s two r p = rw e p
+by_kind_put kind v delta out at (inr e) s two r p = rw e (integer_put v delta out at (rw e at s) two r p)

@@ -10,7 +10,7 @@ use mathlib.Core.List.{List, [], ◌∷◌, map}
 use lib.ListN.{length, get_or, set, take, drop, length-set, length-take, drop_of_length-le}
 use lib.Pow.{pow_pos, pow-add}
 use native.Mathlib.Decide.{dec_le}
-use lib.Seq.{slice, slice-cons, slice_empty, drop-drop}
+use lib.Seq.{slice, slice-cons, slice_empty, drop-drop, take-length}
 use Rattle.lxt_format.specs.Buffers.{placed, placed_none, stored_one, placed_next}
 use lib.Dec.{leb, ltb, eqb, lit<, lit≤}
 use borrow.Author.Tests.{eqb-true, leb-true, ltb-true}
@@ -385,24 +385,28 @@ places_some b Size.one = (lit< tt, lit< tt, lit≤ tt, lit≤ tt)
 places_some b Size.two = (lit< tt, lit< tt, lit≤ tt, lit≤ tt)
 places_some b Size.four = (lit< tt, lit< tt, lit≤ tt, lit≤ tt)
 
--- the bytes of the symbols from p up to end
-abbrev pub bytes_from : List ℕ → ℕ → ℕ → ℕ → List ℕ
-bytes_from v b p end = pack b (packed_size b (end - p)) (map code_of (slice p end v))
+-- the bytes of all symbols, and of those from p on
+abbrev pub bytes_of : List ℕ → ℕ → List ℕ
+bytes_of v b = pack b (packed_size b (length v)) (map code_of v)
+
+abbrev pub bytes_from : List ℕ → ℕ → ℕ → List ℕ
+bytes_from v b p = pack b (packed_size b (length v - p)) (map code_of (slice p (length v) v))
 
 -- the symbols up to p are packed; the others, put at q, give the whole
-pub record Packed (v : List ℕ) (start end b : ℕ) (out : List ℕ) (at : ℕ) (out' : List ℕ) (p q : ℕ) : Type 0 where
-  pub left : placed out' q (bytes_from v b p end) ≡ placed out at (bytes_from v b start end)
-  pub from : start ≤ p
-  pub upto : p ≤ end
-  pub room : q + packed_size b (end - p) ≤ length out
+pub record Packed (v : List ℕ) (b : ℕ) (out : List ℕ) (at : ℕ) (out' : List ℕ) (p q : ℕ) : Type 0 where
+  pub left : placed out' q (bytes_from v b p) ≡ placed out at (bytes_of v b)
+  pub upto : p ≤ length v
+  pub room : q + packed_size b (length v - p) ≤ length out
   pub long : length out' ≡ length out
 
-pack_begun : (v : List ℕ) (start end b : ℕ) (out : List ℕ) (at : ℕ) → Packing v start end b out at → Packed v start end b out at out start at
-pack_begun v start end b out at k = record { left = refl; from = le_refl start; upto = k.holding.upto; room = k.room; long = refl }
+pack_begun : (v : List ℕ) (b : ℕ) (out : List ℕ) (at : ℕ) → Packing v b out at → Packed v b out at out 0 at
+pack_begun v b out at k =
+    let n : length v - 0 ≡ length v = omega arith in
+    record { left = rw (n, take-length v); upto = omega arith; room = rw n k.room; long = refl }
 
-module _ (v : List ℕ) (start end b : ℕ) (out : List ℕ) (at : ℕ) (k : Packing v start end b out at) (out' : List ℕ) (p q : ℕ) (w : Packed v start end b out at out' p q) where
+module _ (v : List ℕ) (b : ℕ) (out : List ℕ) (at : ℕ) (k : Packing v b out at) (out' : List ℕ) (p q : ℕ) (w : Packed v b out at out' p q) where
   -- what a byte asks of its symbols
-  pack_whole : 8 / b ≤ end - p → Holding v b p (p + 8 / b)
+  pack_whole : 8 / b ≤ length v - p → Holding v b p (p + 8 / b)
   pack_whole h =
       let g = k.holding in
       let u = w.upto in
@@ -410,53 +414,51 @@ module _ (v : List ℕ) (start end b : ℕ) (out : List ℕ) (at : ℕ) (k : Pac
         size = g.size;
         upto = omega arith;
         within = omega (arith, g.within);
-        codes = λ i l m. g.codes i (omega (arith, w.from)) (omega arith);
-        known = λ i l m. g.known i (omega (arith, w.from)) (omega arith);
+        codes = λ i l m. g.codes i (omega arith) (omega arith);
+        known = λ i l m. g.known i (omega arith) (omega arith);
       }
 
-  pack_rest : Holding v b p end
+  pack_rest : Holding v b p (length v)
   pack_rest =
       let g = k.holding in
-      record { size = g.size; upto = w.upto; within = g.within; codes = λ i l m. g.codes i (omega (arith, w.from)) m; known = λ i l m. g.known i (omega (arith, w.from)) m }
+      record { size = g.size; upto = w.upto; within = g.within; codes = λ i l m. g.codes i (omega arith) m; known = λ i l m. g.known i (omega arith) m }
 
-  one_more : p + 8 / b ≤ end → packed_size b (end - p) ≡ suc (packed_size b (end - (p + 8 / b)))
+  one_more : p + 8 / b ≤ length v → packed_size b (length v - p) ≡ suc (packed_size b (length v - (p + 8 / b)))
   one_more h =
-      let e : end - (p + 8 / b) ≡ end - p - 8 / b = omega arith in
-      rw e (size_next b (end - p) k.holding.size (omega arith))
+      let e : length v - (p + 8 / b) ≡ length v - p - 8 / b = omega arith in
+      rw e (size_next b (length v - p) k.holding.size (omega arith))
 
-  pack_turn : 8 / b ≤ end - p → (x : ℕ) → x ≡ packed_codes b (8 / b) (map code_of (slice p (p + 8 / b) v))
-      → Packed v start end b out at (set out' q x) (p + 8 / b) (q + 1)
+  pack_turn : 8 / b ≤ length v - p → (x : ℕ) → x ≡ packed_codes b (8 / b) (map code_of (slice p (p + 8 / b) v))
+      → Packed v b out at (set out' q x) (p + 8 / b) (q + 1)
   unfolding pack
   pack_turn lh x ex =
       let g = k.holding in
       let u = w.upto in
-      let h : p + 8 / b ≤ end = omega arith in
+      let h : p + 8 / b ≤ length v = omega arith in
       let n = one_more h in
       let l = w.long in
       let r = w.room in
-      let f = w.from in
-      let same : x ≡ packed_codes b (8 / b) (map code_of (slice p end v)) = ex ∙ packed_ends v b (8 / b) p (p + 8 / b) end (omega arith) h (omega (arith, g.within)) g.within in
-      let cons : bytes_from v b p end ≡ x ∷ bytes_from v b (p + 8 / b) end = rw (n, same, codes_drop v (8 / b) p end g.within) in
+      let same : x ≡ packed_codes b (8 / b) (map code_of (slice p (length v) v)) = ex ∙ packed_ends v b (8 / b) p (p + 8 / b) (length v) (omega arith) h (omega (arith, g.within)) g.within in
+      let cons : bytes_from v b p ≡ x ∷ bytes_from v b (p + 8 / b) = rw (n, same, codes_drop v (8 / b) p (length v) g.within) in
       record {
-        left = placed_next out' q x (bytes_from v b (p + 8 / b) end) (omega arith) ∙ ap (λ t. placed out' q t) (sym cons) ∙ w.left;
-        from = omega arith;
+        left = placed_next out' q x (bytes_from v b (p + 8 / b)) (omega arith) ∙ ap (λ t. placed out' q t) (sym cons) ∙ w.left;
         upto = h;
         room = omega arith;
         long = length-set out' q x ∙ w.long;
       }
 
-  pack_last : end - p < 8 / b → p < end → (x : ℕ) → x ≡ packed_codes b (8 / b) (map code_of (slice p end v)) → set out' q x ≡ placed out at (bytes_from v b start end)
+  pack_last : length v - p < 8 / b → p < length v → (x : ℕ) → x ≡ packed_codes b (8 / b) (map code_of (slice p (length v) v)) → set out' q x ≡ placed out at (bytes_of v b)
   unfolding pack
   pack_last h l x ex =
-      let n : packed_size b (end - p) ≡ 1 = size_last b (end - p) k.holding.size (omega arith) (omega arith) in
-      let one : bytes_from v b p end ≡ x ∷ [] = rw (n, ex) in
+      let n : packed_size b (length v - p) ≡ 1 = size_last b (length v - p) k.holding.size (omega arith) (omega arith) in
+      let one : bytes_from v b p ≡ x ∷ [] = rw (n, ex) in
       stored_one out' q x (omega (arith, w.room, w.long)) ∙ ap (λ t. placed out' q t) (sym one) ∙ w.left
 
-  pack_ended : end ≤ p → out' ≡ placed out at (bytes_from v b start end)
+  pack_ended : length v ≤ p → out' ≡ placed out at (bytes_of v b)
   unfolding pack
   pack_ended h =
-      let z : end - p ≡ 0 = omega arith in
-      let none : bytes_from v b p end ≡ [] = rw (z, size_none b k.holding.size) in
+      let z : length v - p ≡ 0 = omega arith in
+      let none : bytes_from v b p ≡ [] = rw (z, size_none b k.holding.size) in
       sym (placed_none out' q) ∙ ap (λ t. placed out' q t) (sym none) ∙ w.left
 
 -- ---- how many codes there are of b bits
@@ -470,16 +472,16 @@ pub small_product : (sum base : ℕ) → sum < 256 → base ≤ 16 → sum * bas
 small_product sum base h k = let l : sum ≤ 255 = omega arith in mul-le-mul l k
 
 -- there is room for each byte
-module _ (v : List ℕ) (start end b : ℕ) (out : List ℕ) (at : ℕ) (k : Packing v start end b out at) (out' : List ℕ) (p q : ℕ) (w : Packed v start end b out at out' p q) where
-  pack_room : 8 / b ≤ end - p → q < length out'
+module _ (v : List ℕ) (b : ℕ) (out : List ℕ) (at : ℕ) (k : Packing v b out at) (out' : List ℕ) (p q : ℕ) (w : Packed v b out at out' p q) where
+  pack_room : 8 / b ≤ length v - p → q < length out'
   pack_room h =
       let u = w.upto in
-      let n = size_next b (end - p) k.holding.size h in
+      let n = size_next b (length v - p) k.holding.size h in
       omega (arith, w.room, w.long)
 
-  pack_room_last : end - p < 8 / b → p < end → q < length out'
+  pack_room_last : length v - p < 8 / b → p < length v → q < length out'
   pack_room_last h l =
-      let n = size_last b (end - p) k.holding.size (omega arith) h in
+      let n = size_last b (length v - p) k.holding.size (omega arith) h in
       omega (arith, w.room, w.long)
 
 -- ---- byte j of the whole ones
@@ -497,69 +499,69 @@ count_rest b Size.two w = (omega arith, omega arith)
 count_rest b Size.four w = (omega arith, omega arith)
 
 -- the symbols of j bytes are packed
-pub record Counting (v : List ℕ) (start end b : ℕ) (out : List ℕ) (at : ℕ) (out' : List ℕ) (j : ℕ) : Type 0 where
-  pub packed : Packed v start end b out at out' (start + 8 / b * j) (at + j)
-  pub upto : j ≤ (end - start) / (8 / b)
+pub record Counting (v : List ℕ) (b : ℕ) (out : List ℕ) (at : ℕ) (out' : List ℕ) (j : ℕ) : Type 0 where
+  pub packed : Packed v b out at out' (8 / b * j) (at + j)
+  pub upto : j ≤ length v / (8 / b)
 
-module _ (v : List ℕ) (start end b : ℕ) (out : List ℕ) (at : ℕ) (k : Packing v start end b out at) where
-  pub count_begun : Counting v start end b out at out 0
+module _ (v : List ℕ) (b : ℕ) (out : List ℕ) (at : ℕ) (k : Packing v b out at) where
+  pub count_begun : Counting v b out at out 0
   count_begun =
-      let z : start + 8 / b * 0 ≡ start = ap (λ n. start + n) (mul-zero (8 / b)) ∙ add-zero start in
+      let z : 8 / b * 0 ≡ 0 = mul-zero (8 / b) in
       let y : at + 0 ≡ at = add-zero at in
-      record { packed = rw (z, y) (pack_begun v start end b out at k); upto = omega arith }
+      record { packed = rw (z, y) (pack_begun v b out at k); upto = omega arith }
 
-  module _ (out' : List ℕ) (j : ℕ) (w : Counting v start end b out at out' j) where
-    module _ (h : j < (end - start) / (8 / b)) where
-      left : 8 / b ≤ end - (start + 8 / b * j)
-      left = omega (arith, count_left b k.holding.size (end - start) j h, k.holding.upto)
+  module _ (out' : List ℕ) (j : ℕ) (w : Counting v b out at out' j) where
+    module _ (h : j < length v / (8 / b)) where
+      left : 8 / b ≤ length v - 8 / b * j
+      left = omega (arith, count_left b k.holding.size (length v) j h, k.holding.upto)
 
-      pub count_whole : Whole v b (8 / b) (start + 8 / b * j)
-      count_whole = whole_of v b (start + 8 / b * j) (pack_whole v start end b out at k out' (start + 8 / b * j) (at + j) w.packed left)
+      pub count_whole : Whole v b (8 / b) (8 / b * j)
+      count_whole = whole_of v b (8 / b * j) (pack_whole v b out at k out' (8 / b * j) (at + j) w.packed left)
 
       pub count_room : at + j < length out'
-      count_room = pack_room v start end b out at k out' (start + 8 / b * j) (at + j) w.packed left
+      count_room = pack_room v b out at k out' (8 / b * j) (at + j) w.packed left
 
-      pub count_turn : (x : ℕ) → x ≡ packed_codes b (8 / b) (map code_of (slice (start + 8 / b * j) (start + 8 / b * j + 8 / b) v)) → Counting v start end b out at (set out' (at + j) x) (j + 1)
+      pub count_turn : (x : ℕ) → x ≡ packed_codes b (8 / b) (map code_of (slice (8 / b * j) (8 / b * j + 8 / b) v)) → Counting v b out at (set out' (at + j) x) (j + 1)
       count_turn x e =
           let one : 8 / b * (j + 1) ≡ 8 / b * j + 8 / b = rw (add-one j) (mul-suc (8 / b) j) in
-          let p : start + 8 / b * (j + 1) ≡ start + 8 / b * j + 8 / b = omega arith in
+          let p : 8 / b * (j + 1) ≡ 8 / b * j + 8 / b = omega arith in
           let q : at + (j + 1) ≡ at + j + 1 = omega arith in
-          record { packed = rw (p, q) (pack_turn v start end b out at k out' (start + 8 / b * j) (at + j) w.packed left x e); upto = omega arith }
+          record { packed = rw (p, q) (pack_turn v b out at k out' (8 / b * j) (at + j) w.packed left x e); upto = omega arith }
 
-    module _ (over : (end - start) / (8 / b) ≤ j) where
+    module _ (over : length v / (8 / b) ≤ j) where
       count : ℕ
-      count = (end - start) / (8 / b)
+      count = length v / (8 / b)
 
-      all_packed : Packed v start end b out at out' (start + 8 / b * count) (at + count)
+      all_packed : Packed v b out at out' (8 / b * count) (at + count)
       unfolding count
-      all_packed = let e : j ≡ (end - start) / (8 / b) = omega (arith, w.upto) in rw e at w.packed
+      all_packed = let e : j ≡ length v / (8 / b) = omega (arith, w.upto) in rw e at w.packed
 
-      few : end - (start + 8 / b * count) < 8 / b
+      few : length v - 8 / b * count < 8 / b
       unfolding count
-      few = let r = count_rest b k.holding.size (end - start) in omega (arith, r.0, r.1)
+      few = let r = count_rest b k.holding.size (length v) in omega (arith, r.0, r.1)
 
-      pub count_rest_holds : Holding v b (start + 8 / b * ((end - start) / (8 / b))) end
+      pub count_rest_holds : Holding v b (8 / b * (length v / (8 / b))) (length v)
       unfolding count
-      count_rest_holds = pack_rest v start end b out at k out' (start + 8 / b * count) (at + count) all_packed
+      count_rest_holds = pack_rest v b out at k out' (8 / b * count) (at + count) all_packed
 
-      pub count_rest_room : start + 8 / b * ((end - start) / (8 / b)) < end → at + (end - start) / (8 / b) < length out'
+      pub count_rest_room : 8 / b * (length v / (8 / b)) < length v → at + length v / (8 / b) < length out'
       unfolding count
-      count_rest_room h = pack_room_last v start end b out at k out' (start + 8 / b * count) (at + count) all_packed few h
+      count_rest_room h = pack_room_last v b out at k out' (8 / b * count) (at + count) all_packed few h
 
-      pub count_last : start + 8 / b * ((end - start) / (8 / b)) < end → (x : ℕ)
-          → x ≡ packed_codes b (8 / b) (map code_of (slice (start + 8 / b * ((end - start) / (8 / b))) end v))
-          → set out' (at + (end - start) / (8 / b)) x ≡ placed out at (bytes_from v b start end)
+      pub count_last : 8 / b * (length v / (8 / b)) < length v → (x : ℕ)
+          → x ≡ packed_codes b (8 / b) (map code_of (slice (8 / b * (length v / (8 / b))) (length v) v))
+          → set out' (at + length v / (8 / b)) x ≡ placed out at (bytes_of v b)
       unfolding count
-      count_last h x e = pack_last v start end b out at k out' (start + 8 / b * count) (at + count) all_packed few h x e
+      count_last h x e = pack_last v b out at k out' (8 / b * count) (at + count) all_packed few h x e
 
-      pub count_ended : end ≤ start + 8 / b * ((end - start) / (8 / b)) → out' ≡ placed out at (bytes_from v b start end)
+      pub count_ended : length v ≤ 8 / b * (length v / (8 / b)) → out' ≡ placed out at (bytes_of v b)
       unfolding count
-      count_ended h = pack_ended v start end b out at k out' (start + 8 / b * count) (at + count) all_packed h
+      count_ended h = pack_ended v b out at k out' (8 / b * count) (at + count) all_packed h
 
 -- ---- the three sizes
 
-pub packing_of : (v : List ℕ) (start end b n : ℕ) (out : List ℕ) (at : ℕ) → b ≡ n → Packing v start end b out at → Packing v start end n out at
-packing_of v start end b n out at e k = rw e at k
+pub packing_of : (v : List ℕ) (b n : ℕ) (out : List ℕ) (at : ℕ) → b ≡ n → Packing v b out at → Packing v n out at
+packing_of v b n out at e k = rw e at k
 
-pub packed_of : (v : List ℕ) (start end b n : ℕ) (out : List ℕ) (at : ℕ) (out' : List ℕ) → b ≡ n → out' ≡ placed out at (bytes_from v n start end) → out' ≡ placed out at (bytes_from v b start end)
-packed_of v start end b n out at out' e h = rw e h
+pub packed_of : (v : List ℕ) (b n : ℕ) (out : List ℕ) (at : ℕ) (out' : List ℕ) → b ≡ n → out' ≡ placed out at (bytes_of v n) → out' ≡ placed out at (bytes_of v b)
+packed_of v b n out at out' e h = rw e h

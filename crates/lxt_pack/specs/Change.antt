@@ -1,6 +1,5 @@
 -- What the functions over one change answer and ask.
 use Rattle.std.specs.Prelude.{ℕ, ◌+◌, ◌*◌, ◌-◌, ◌≤◌, ◌<◌, ◌≡◌, true, List, ◌∷◌, length, if◌then◌else◌}
-use Rattle.std.proofs.Math.Seq.{slice}
 use Rattle.lxt_format.specs.Basics.{all}
 use Rattle.lxt_format.specs.Buffers.{placed}
 use Rattle.lxt_format.specs.Changes.{symbol_size, packed_size}
@@ -8,12 +7,6 @@ use Rattle.lxt_format.specs.declared.Kind.{Kind}
 use Rattle.lxt_format.specs.declared.Kind.TheVariants.{Bits, Integer, Real, Text}
 use Rattle.lxt_written.specs.WrittenChanges.{big_endian, can_hold, data_for, fewest_bytes, change_bytes}
 use Rattle.lxt_written.specs.Writing.{is_symbol, value_allowed}
-
--- a part of the pool of values, whose length is a number of 32 bits
-pub record Part (values : List ℕ) (start end : ℕ) : Type 0 where
-  pub upto : start ≤ end
-  pub within : end ≤ length values
-  pub size : end - start < 4294967296
 
 -- the widths of a kind
 abbrev pub WidthFor : Kind → ℕ → Type 0
@@ -50,21 +43,19 @@ pub record HeadAsked (command delta : ℕ) (out : List ℕ) (at : ℕ) : Type 0 
   pub room : at + 4 ≤ length out
 
 -- symbols that a command holds, with room for their bytes
-pub record Held (values : List ℕ) (start end command : ℕ) (out : List ℕ) (at : ℕ) : Type 0 where
-  pub upto : start ≤ end
-  pub within : end ≤ length values
-  pub most : end - start ≤ 4096
-  pub symbols : all is_symbol (slice start end values) ≡ true
-  pub holds : can_hold Bits (slice start end values) command ≡ true
-  pub room : at + packed_size (symbol_size command) (end - start) ≤ length out
+pub record Held (value : List ℕ) (command : ℕ) (out : List ℕ) (at : ℕ) : Type 0 where
+  pub most : length value ≤ 4096
+  pub symbols : all is_symbol value ≡ true
+  pub holds : can_hold Bits value command ≡ true
+  pub room : at + packed_size (symbol_size command) (length value) ≤ length out
 
--- a value of this kind that is allowed, with room for its change
-pub record Sound (kind : Kind) (values : List ℕ) (start end delta : ℕ) (out : List ℕ) (at : ℕ) : Type 0 where
-  pub part : Part values start end
+-- a value of this kind that is allowed, and whose length is a number of 32 bits, with room for its change
+pub record Sound (kind : Kind) (value : List ℕ) (delta : ℕ) (out : List ℕ) (at : ℕ) : Type 0 where
+  pub size : length value < 4294967296
   pub width : ℕ
   pub wide : WidthFor kind width
-  pub allowed : value_allowed kind width (slice start end values) ≡ true
-  pub room : at + length (change_bytes kind delta (slice start end values)) ≤ length out
+  pub allowed : value_allowed kind width value ≡ true
+  pub room : at + length (change_bytes kind delta value) ≤ length out
   pub spare : at + 4 ≤ length out
   pub delta_small : delta < 16777216
 

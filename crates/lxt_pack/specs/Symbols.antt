@@ -51,7 +51,7 @@ pub record Holding (values : List ℕ) (b start end : ℕ) : Type 0 where
   pub codes : (i : ℕ) → start ≤ i → i < end → code_of (get_or values i 0) < 2 ^ b
   pub known : Symbols values start end
 
--- and room for their bytes from `at` on
-pub record Packing (values : List ℕ) (start end b : ℕ) (out : List ℕ) (at : ℕ) : Type 0 where
-  pub holding : Holding values b start end
-  pub room : at + packed_size b (end - start) ≤ length out
+-- a value of such symbols, and room for their bytes from `at` on
+pub record Packing (value : List ℕ) (b : ℕ) (out : List ℕ) (at : ℕ) : Type 0 where
+  pub holding : Holding value b 0 (length value)
+  pub room : at + packed_size b (length value) ≤ length out

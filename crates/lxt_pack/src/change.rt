@@ -1,11 +1,10 @@
 // One change: how many bytes it takes, and its bytes.
 ghost use Rattle.std.specs.Prelude.{◌≡◌, ◌+◌, ◌*◌, ◌-◌, ◌≤◌, ◌<◌, length, ltb, if◌then◌else◌};
-ghost use Rattle.std.proofs.Math.Seq.{slice};
 ghost use Rattle.lxt_format.specs.Buffers.{placed};
 ghost use Rattle.lxt_format.specs.Changes.{symbol_size, packed_size};
 ghost use Rattle.lxt_format.specs.declared.Kind.TheVariants.{Bits, Integer, Real, Text};
 ghost use Rattle.lxt_written.specs.WrittenChanges.{code_of, fewest_bytes, packed_symbols};
-ghost use Rattle.lxt_pack.specs.Change.{Part, WidthFor, not_allowed, size_for, Sizes, head_of, Scales, HeadAsked, Held, Sound, Puts};
+ghost use Rattle.lxt_pack.specs.Change.{WidthFor, not_allowed, size_for, Sizes, head_of, Scales, HeadAsked, Held, Sound, Puts};
 
 use crate::{put, symbols};
 use lxt_format::Kind;
@@ -132,13 +131,12 @@ fn data_size(kind: Kind, width: u64, value: &[u8]) -> usize
     }
 }
 
-// The bytes of a change whose value is the part from `start` up to `end`; more than any file has where that is
-// no value of the kind and width.
-pub fn size_of(kind: Kind, width: u64, values: &[u8], start: usize, end: usize, delta: u32) -> usize
-    requires { Part values.now start end × WidthFor kind width }
-    ensures { (result ≡ 1 + fewest_bytes delta + size_for kind width (slice start end values.now)) × (result ≤ 5 + not_allowed) }
+// The bytes of a change; more than any file has where the value is none of the kind and width.
+pub fn size_of(kind: Kind, width: u64, value: &[u8], delta: u32) -> usize
+    requires { (length value.now < 4294967296) × WidthFor kind width }
+    ensures { (result ≡ 1 + fewest_bytes delta + size_for kind width value.now) × (result ≤ 5 + not_allowed) }
 {
-    1 + delta_size(delta) + data_size(kind, width, &values[start..end])
+    1 + delta_size(delta) + data_size(kind, width, value)
 }
 
 // ---- its bytes
@@ -178,73 +176,58 @@ fn put_head(command: u8, delta: u32, out: &mut [u8], at: usize) -> usize
 }
 
 // Symbols under a command that holds them, and where they end.
-fn put_symbols(
-    values: &[u8],
-    start: usize,
-    end: usize,
-    command: u8,
-    out: &mut [u8],
-    at: usize,
-) -> usize
-    requires { Held values.now start end command out.old at }
-    ensures out_after { out.new ≡ placed out.old at (packed_symbols command (slice start end values.now)) }
-    ensures value { result ≡ at + packed_size (symbol_size command) (end - start) }
+fn put_symbols(value: &[u8], command: u8, out: &mut [u8], at: usize) -> usize
+    requires { Held value.now command out.old at }
+    ensures out_after { out.new ≡ placed out.old at (packed_symbols command value.now) }
+    ensures value { result ≡ at + packed_size (symbol_size command) (length value.now) }
 {
     let b = symbol_size(command);
     if b == 0 {
         return at;
     }
-    symbols::pack(values, start, end, b, out, at);
-    at + packed_size(b, end - start)
+    symbols::pack(value, b, out, at);
+    at + packed_size(b, value.len())
 }
 
 // A change of symbols, and where it ends.
-fn put_bits(values: &[u8], start: usize, end: usize, delta: u32, out: &mut [u8], at: usize) -> usize
-    requires { Sound Bits values.now start end delta out.old at }
-    ensures { Puts Bits (slice start end values.now) delta out.old at out.new result }
+fn put_bits(value: &[u8], delta: u32, out: &mut [u8], at: usize) -> usize
+    requires { Sound Bits value.now delta out.old at }
+    ensures { Puts Bits value.now delta out.old at out.new result }
 {
-    let command = symbols::command_of_symbols(&values[start..end]);
+    let command = symbols::command_of_symbols(value);
     let data = put_head(command, delta, out, at);
-    put_symbols(values, start, end, command, out, data)
+    put_symbols(value, command, out, data)
 }
 
 // A real, whose bytes are given lowest first.
-fn put_real(values: &[u8], start: usize, end: usize, delta: u32, out: &mut [u8], at: usize) -> usize
-    requires { Sound Real values.now start end delta out.old at }
-    ensures { Puts Real (slice start end values.now) delta out.old at out.new result }
+fn put_real(value: &[u8], delta: u32, out: &mut [u8], at: usize) -> usize
+    requires { Sound Real value.now delta out.old at }
+    ensures { Puts Real value.now delta out.old at out.new result }
 {
     let data = put_head(0, delta, out, at);
-    put::copy(out, data, values, start, end);
-    data + (end - start)
+    put::copy(out, data, value);
+    data + value.len()
 }
 
 // A text, and the zero that ends it.
-fn put_text(values: &[u8], start: usize, end: usize, delta: u32, out: &mut [u8], at: usize) -> usize
-    requires { Sound Text values.now start end delta out.old at }
-    ensures { Puts Text (slice start end values.now) delta out.old at out.new result }
+fn put_text(value: &[u8], delta: u32, out: &mut [u8], at: usize) -> usize
+    requires { Sound Text value.now delta out.old at }
+    ensures { Puts Text value.now delta out.old at out.new result }
 {
     let data = put_head(0, delta, out, at);
-    put::copy(out, data, values, start, end);
-    put::number::<1>(out, data + (end - start), 0);
-    data + (end - start) + 1
+    put::copy(out, data, value);
+    put::number::<1>(out, data + value.len(), 0);
+    data + value.len() + 1
 }
 
 // A change, and where it ends. An integer is put as its symbols.
-pub fn put(
-    kind: Kind,
-    values: &[u8],
-    start: usize,
-    end: usize,
-    delta: u32,
-    out: &mut [u8],
-    at: usize,
-) -> usize
-    requires { Sound kind values.now start end delta out.old at }
-    ensures { Puts kind (slice start end values.now) delta out.old at out.new result }
+pub fn put(kind: Kind, value: &[u8], delta: u32, out: &mut [u8], at: usize) -> usize
+    requires { Sound kind value.now delta out.old at }
+    ensures { Puts kind value.now delta out.old at out.new result }
 {
     match kind {
-        Kind::Bits | Kind::Integer => put_bits(values, start, end, delta, out, at),
-        Kind::Real => put_real(values, start, end, delta, out, at),
-        Kind::Text => put_text(values, start, end, delta, out, at),
+        Kind::Bits | Kind::Integer => put_bits(value, delta, out, at),
+        Kind::Real => put_real(value, delta, out, at),
+        Kind::Text => put_text(value, delta, out, at),
     }
 }

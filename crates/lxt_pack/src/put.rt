@@ -1,6 +1,5 @@
 // Bytes put into the lent buffer. Each function puts its bytes at a place and leaves the others.
 ghost use Rattle.std.specs.Prelude.{◌≡◌, ◌+◌, ◌-◌, ◌≤◌, ◌<◌, length};
-ghost use Rattle.std.proofs.Math.Seq.{slice};
 ghost use Rattle.lxt_format.specs.Buffers.{placed};
 ghost use Rattle.lxt_written.specs.WrittenChanges.{big_endian};
 
@@ -13,10 +12,10 @@ pub fn number<const N: usize>(out: &mut [u8], at: usize, x: u32)
     out[at..at + N].copy_from_slice(&x.to_be_bytes()[4 - N..]);
 }
 
-// The bytes of a pool from `start` up to `end`.
-pub fn copy(out: &mut [u8], at: usize, pool: &[u8], start: usize, end: usize)
-    requires { (start ≤ end) × (end ≤ length pool.now) × (at + (end - start) ≤ length out.old) }
-    ensures { out.new ≡ placed out.old at (slice start end pool.now) }
+// Bytes as they are.
+pub fn copy(out: &mut [u8], at: usize, bytes: &[u8])
+    requires { at + length bytes.now ≤ length out.old }
+    ensures { out.new ≡ placed out.old at bytes.now }
 {
-    out[at..at + (end - start)].copy_from_slice(&pool[start..end]);
+    out[at..at + bytes.len()].copy_from_slice(bytes);
 }

@@ -220,29 +220,29 @@ fn whole<const B: usize>(values: &[u8], at: usize) -> u8
 }
 
 // Codes of B bits, as many to a byte as it holds.
-fn pack_codes<const B: usize>(values: &[u8], start: usize, end: usize, out: &mut [u8], at: usize)
-    requires { Packing values.now start end B out.old at }
-    ensures { out.new ≡ placed out.old at (pack B (packed_size B (end - start)) (map code_of (slice start end values.now))) }
+fn pack_codes<const B: usize>(value: &[u8], out: &mut [u8], at: usize)
+    requires { Packing value.now B out.old at }
+    ensures { out.new ≡ placed out.old at (pack B (packed_size B (length value.now)) (map code_of value.now)) }
 {
     let places = 8 / B;
-    let count = (end - start) / places;
+    let count = value.len() / places;
     for j in 0..count {
-        out[at + j] = whole::<B>(values, start + places * j);
+        out[at + j] = whole::<B>(value, places * j);
     }
-    let p = start + places * count;
-    if p < end {
-        out[at + count] = rest(values, p, end, B);
+    let p = places * count;
+    if p < value.len() {
+        out[at + count] = rest(value, p, value.len(), B);
     }
 }
 
-// The codes from `start` up to `end`, b bits each, put at `at`.
-pub fn pack(values: &[u8], start: usize, end: usize, b: usize, out: &mut [u8], at: usize)
-    requires { Packing values.now start end b out.old at }
-    ensures { out.new ≡ placed out.old at (pack b (packed_size b (end - start)) (map code_of (slice start end values.now))) }
+// The codes of a value, b bits each, put at `at`.
+pub fn pack(value: &[u8], b: usize, out: &mut [u8], at: usize)
+    requires { Packing value.now b out.old at }
+    ensures { out.new ≡ placed out.old at (pack b (packed_size b (length value.now)) (map code_of value.now)) }
 {
     match b {
-        1 => pack_codes::<1>(values, start, end, out, at),
-        2 => pack_codes::<2>(values, start, end, out, at),
-        _ => pack_codes::<4>(values, start, end, out, at),
+        1 => pack_codes::<1>(value, out, at),
+        2 => pack_codes::<2>(value, out, at),
+        _ => pack_codes::<4>(value, out, at),
     }
 }

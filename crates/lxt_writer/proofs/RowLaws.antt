@@ -5,8 +5,8 @@ use native.Mathlib.Decide.{ℕ_discrete}
 use mathlib.Core.Path.{◌≡◌, refl, sym, ◌∙◌}
 use mathlib.Core.Bool.{true, false, true≢false}
 use mathlib.Core.List.{List, [], ◌∷◌, map}
-use lib.ListN.{length, get_or, set, length-map, length-set}
-use lib.Seq.{slice, get_or-set_same, get_or-set_other}
+use lib.ListN.{length, get_or, set, take, drop, length-map, length-set}
+use lib.Seq.{length-slice, get_or-set_same, get_or-set_other}
 use lib.Dec.{leb, ltb}
 use borrow.Author.Tests.{le-leb, lt-leb, lt-ltb, le-ltb, ltb-true, eq-eqb, ne_eqb}
 use Rattle.lxt_format.specs.Limits.{longest_file, widest_facility}
@@ -19,6 +19,7 @@ use Rattle.lxt_written.specs.Input.{part, kind_of_code, facility_of, change_of, 
 use Rattle.lxt_written.specs.WrittenChanges.{data_for, fewest_bytes, no_facility, numbered, last_of, pair_of, lay_at}
 use Rattle.lxt_written.specs.Writing.{facts_for, value_allowed, value_of_allowed}
 use Rattle.lxt_written.specs.CommandLaws.{length_change, change_long}
+use Rattle.lxt_pack.proofs.PartLaws.{part_is}
 use Rattle.lxt_pack.specs.Change.{WidthFor, not_allowed, size_for}
 use Rattle.lxt_writer.specs.Changes.{nameless, Laying, row_allowed, row_bytes, RowSized}
 
@@ -47,6 +48,22 @@ pub width_known : (facility : List ℕ) (kind : Kind) (width : ℕ) → kind ≡
     → (facts_for (facility_of [] facility)).width ≤ widest_facility → WidthFor kind width
 unfolding facts_for facility_of
 width_known facility kind width ek ew h = rw ew (width_for kind (get_or facility 3 0) (get_or facility 4 0) (rw ek h))
+
+-- ---- the value of a row
+
+-- a part of the pool as it is lent on
+abbrev pub lent : List ℕ → ℕ → ℕ → List ℕ
+lent pool start size = take (start + size - start) (drop start pool)
+
+module _ (pool : List ℕ) (start size : ℕ) (inside : start + size ≤ length pool) where
+  pub lent_part : lent pool start size ≡ part pool start size
+  unfolding part
+  lent_part = part_is pool start (start + size) (omega arith) inside
+
+  -- it is as long as it says
+  pub part_short : size < 4294967296 → length (lent pool start size) < 4294967296
+  unfolding part
+  part_short h = rw lent_part (let l = length-slice start (start + size) pool inside in omega arith)
 
 -- ---- how many bytes a row takes
 
@@ -95,19 +112,21 @@ module _ (rows : List (List ℕ)) (row values last : List ℕ) (o : ℕ) (known 
   pub row_sized : (kind : Kind) (width delta r : ℕ) → kind ≡ kind_of_code (get_or facility 2 0)
       → width ≡ (facts_by kind (get_or facility 3 0) (get_or facility 4 0)).width
       → delta ≡ o - get_or last (get_or row 0 0) 0 - 2
-      → r ≡ 1 + fewest_bytes delta + size_for kind width (slice (get_or row 2 0) (get_or row 2 0 + get_or row 3 0) values) → r ≤ 5 + not_allowed
+      → r ≡ 1 + fewest_bytes delta + size_for kind width (lent values (get_or row 2 0) (get_or row 3 0)) → r ≤ 5 + not_allowed
       → RowSized rows row values last o r
   unfolding size_for row_bytes part
   row_sized kind width delta r ek ew ed er most =
       let value : List ℕ = part values (get_or row 2 0) (get_or row 3 0) in
+      let is = lent_part values (get_or row 2 0) (get_or row 3 0) inside in
       let same : row_allowed rows row values ≡ value_allowed kind width value = row_value ∙ rw (ew, ek) in
+      let er' = rw is at er in
       record {
         allowed = λ k.
             on_test (value_allowed kind width value)
             (λ y. same ∙ y)
-            (λ y. let s : r ≡ 1 + fewest_bytes delta + not_allowed = er ∙ rw y in absurd (omega arith));
+            (λ y. let s : r ≡ 1 + fewest_bytes delta + not_allowed = er' ∙ rw y in absurd (omega arith));
         size = λ y.
-            let s : r ≡ 1 + fewest_bytes delta + length (data_for kind value) = er ∙ rw (sym same ∙ y) in
+            let s : r ≡ 1 + fewest_bytes delta + length (data_for kind value) = er' ∙ rw (sym same ∙ y) in
             s ∙ sym (length_change kind delta value) ∙ rw (ek, ed);
         most = omega arith;
       }

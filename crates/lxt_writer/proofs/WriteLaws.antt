@@ -6,7 +6,6 @@ use mathlib.Core.Path.{◌≡◌, refl, sym, ap, ◌∙◌}
 use mathlib.Core.Bool.{true, ◌&&◌}
 use mathlib.Core.List.{List, [], ◌∷◌, ◌++◌, map, reverse, reverse_aux, append_assoc, append-nil}
 use lib.ListN.{length, get_or, drop, set, length-append, length-map}
-use lib.Seq.{slice}
 use lib.Dec.{leb, ltb}
 use borrow.Author.Tests.{leb-true}
 use Rattle.lxt_format.specs.Limits.{longest_file}
@@ -28,7 +27,7 @@ use Rattle.lxt_facilities.proofs.NameLaws.{rows_next, rows_none}
 use Rattle.lxt_writer.specs.declared.changes.Entry.{Entry}
 use Rattle.lxt_writer.specs.Changes.{nameless, lay_rows, end_from, sound_from, row_allowed, row_bytes, is_new, entries_left}
 use Rattle.lxt_writer.specs.Changes.{EntryAsked, EntryPut, RowAsked, RowPut, positions_of, times_of, PutAsked, ChangesPut, EntriesPut, Writing}
-use Rattle.lxt_writer.proofs.RowLaws.{numbered_row, width_known, row_known, row_laid, row_long, row_newest}
+use Rattle.lxt_writer.proofs.RowLaws.{numbered_row, width_known, lent, lent_part, part_short, row_known, row_laid, row_long, row_newest}
 use Rattle.lxt_writer.proofs.MeasureLaws.{laid_at, lay_next, sound_next, entries_none}
 use Rattle.lxt_writer.proofs.EntryLaws.{entry_time, entry_behind, Entered, entry_room, entered, entries_kept}
 
@@ -39,23 +38,24 @@ module _ (rows : List (List ℕ)) (row values last out : List ℕ) (o : ℕ) (a 
   pub asked_known : get_or row 0 0 < length rows
   asked_known = row_known rows row values a.allowed
 
-  asked_inside : get_or row 2 0 + get_or row 3 0 ≤ length values
+  pub asked_inside : get_or row 2 0 + get_or row 3 0 ≤ length values
   unfolding row_allowed change_row_allowed
   asked_inside = leb-true _ _ (and_both (leb (get_or row 2 0 + get_or row 3 0) (length values)) _ a.allowed).0
 
   -- its change can be put
   pub asked_sound : (kind : Kind) (delta : ℕ) → kind ≡ kind_of_code (get_or (get_or rows (get_or row 0 0) []) 2 0) → delta ≡ o - get_or last (get_or row 0 0) 0 - 2
-      → get_or row 3 0 < 4294967296 → Sound kind values (get_or row 2 0) (get_or row 2 0 + get_or row 3 0) delta out o
+      → get_or row 3 0 < 4294967296 → Sound kind (lent values (get_or row 2 0) (get_or row 3 0)) delta out o
   unfolding row_allowed value_of_allowed row_bytes part facts_for facility_of
   asked_sound kind delta ek ed small =
       let facility : List ℕ = get_or rows (get_or row 0 0) [] in
       let value = (and_both (ltb (get_or row 0 0) (length (nameless rows))) _ (and_both (change_row_allowed values row) _ a.allowed).1).1 in
+      let is = lent_part values (get_or row 2 0) (get_or row 3 0) asked_inside in
       record {
-        part = record { upto = omega arith; within = asked_inside; size = omega arith };
+        size = part_short values (get_or row 2 0) (get_or row 3 0) asked_inside small;
         width = (facts_by kind (get_or facility 3 0) (get_or facility 4 0)).width;
         wide = width_known facility kind _ ek refl (a.widths (get_or row 0 0) asked_known);
-        allowed = rw ek (rw (numbered_row rows (get_or row 0 0) asked_known) at value);
-        room = rw (ek, ed) a.room;
+        allowed = rw (is, ek) (rw (numbered_row rows (get_or row 0 0) asked_known) at value);
+        room = rw (is, ek, ed) a.room;
         spare = a.spare;
         delta_small = omega (arith, a.free.below (get_or row 0 0), a.free.most);
       }
@@ -63,9 +63,11 @@ module _ (rows : List (List ℕ)) (row values last out : List ℕ) (o : ℕ) (a 
   -- it is put
   pub row_put : (kind : Kind) (delta : ℕ) (out' : List ℕ) (r : ℕ) → kind ≡ kind_of_code (get_or (get_or rows (get_or row 0 0) []) 2 0)
       → delta ≡ o - get_or last (get_or row 0 0) 0 - 2
-      → Puts kind (slice (get_or row 2 0) (get_or row 2 0 + get_or row 3 0) values) delta out o out' r → RowPut (row_bytes rows row values last o) out o out' r
+      → Puts kind (lent values (get_or row 2 0) (get_or row 3 0)) delta out o out' r → RowPut (row_bytes rows row values last o) out o out' r
   unfolding row_bytes part
-  row_put kind delta out' r ek ed p = record { puts = p.puts ∙ rw (ek, ed); ends = p.ends ∙ rw (ek, ed) }
+  row_put kind delta out' r ek ed p =
+      let is = lent_part values (get_or row 2 0) (get_or row 3 0) asked_inside in
+      record { puts = p.puts ∙ rw (is, ek, ed); ends = p.ends ∙ rw (is, ek, ed) }
 
 -- ---- the pass
 

@@ -47,7 +47,7 @@ fn row_size(facilities: &[[u32; 5]], row: [u32; 4], values: &[u8], last: &[u32],
     let delta = at - last[f] as usize - 2;
     let kind = facilities::kind_of(facility[KIND]);
     let width = facilities::width_of(kind, facility[MSB], facility[LSB]);
-    change::size_of(kind, width, values, start, end, delta as u32)
+    change::size_of(kind, width, &values[start..end], delta as u32)
 }
 
 // A change at `at` gets an entry: it is the first, or its time is new.
@@ -141,9 +141,7 @@ fn put_row(
     let delta = at - last[f] as usize - 2;
     change::put(
         facilities::kind_of(facility[KIND]),
-        values,
-        start,
-        end,
+        &values[start..end],
         delta as u32,
         out,
         at,

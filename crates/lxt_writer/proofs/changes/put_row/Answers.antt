@@ -1,4 +1,4 @@
-use Rattle.lxt_writer.proofs.WriteLaws.{asked_known, asked_sound, row_put}
+use Rattle.lxt_writer.proofs.WriteLaws.{asked_known, asked_inside, asked_sound, row_put}
 use native.Mathlib.Omega.{arith}
 use mir.Syntax.{w32}
 use mir.Val.{Fits}
@@ -45,6 +45,9 @@ overflow_sub-delta-2 c = omega (arith, c.requires.free.below (get_or c.args.row 
 
 pub overflow_cast-delta-2 : goal.overflow_cast-delta-2
 overflow_cast-delta-2 c = omega (arith, c.requires.free.most)
+
+pub slice_bounds-put-end : goal.slice_bounds-put-end
+slice_bounds-put-end c = asked_inside _ _ _ _ _ _ c.requires
 
 pub put-requires : goal.put-requires
 put-requires c =

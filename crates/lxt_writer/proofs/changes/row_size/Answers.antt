@@ -3,7 +3,7 @@ use lib.ListN.{get_or}
 use mir.Val.{Fits}
 use mir.Syntax.{w32}
 use native.Mathlib.Omega.{arith}
-use Rattle.lxt_writer.proofs.RowLaws.{row_outside, row_past, row_sized, width_known}
+use Rattle.lxt_writer.proofs.RowLaws.{row_outside, row_past, row_sized, width_known, part_short}
 use borrow.Author.Rules.{rules}
 use Rattle.lxt_writer.proofs.changes.row_size.Goals as goal
 
@@ -35,7 +35,8 @@ overflow_cast-delta-2 c = omega (arith, c.requires.1.most)
 pub size_of-requires : goal.size_of-requires
 size_of-requires c =
     let b : Fits w32 (get_or c.args.row 3 0) = search rules in
-    (record { upto = omega arith; within = c.if-values-end.false; size = omega arith }, width_known _ _ _ c.kind_of-kind.ensures c.width_of-width.ensures (c.requires.0 _ c.if-facilities-f.false))
+    let row = c.args.row in
+    (part_short c.args.values.now (get_or row 2 0) (get_or row 3 0) c.if-values-end.false (omega arith), width_known _ _ _ c.kind_of-kind.ensures c.width_of-width.ensures (c.requires.0 _ c.if-facilities-f.false))
 
 pub returns : goal.returns
 returns c =
