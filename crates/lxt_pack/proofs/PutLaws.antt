@@ -6,8 +6,8 @@ use Prim.Native.Nat.{ℕ, suc, ◌+◌, ◌*◌, ◌-◌, ◌/◌, ◌≤◌, �
 use native.Mathlib.Omega.{arith}
 use mathlib.Core.Path.{◌≡◌, refl, sym, ap, ◌∙◌}
 use mathlib.Core.List.{List, [], ◌∷◌, ◌++◌}
-use lib.ListN.{length, get_or, set, take, drop, length-append}
-use lib.Seq.{drop-cons, drop-length, drop-drop}
+use lib.ListN.{length, get_or, set, take, drop, length-append, length-set}
+use lib.Seq.{drop-cons, drop-length, drop-drop, length-take-le, take_all, take-suc}
 use Rattle.lxt_format.specs.Buffers.{placed, length_placed, placed_none, placed_more, placed_byte, stored_one}
 use Rattle.lxt_format.specs.Basics.{joined}
 use Rattle.lxt_written.specs.WrittenChanges.{big_endian}
@@ -24,6 +24,34 @@ stored_three b at x y z h = rw (stored_two b at x y (omega arith)) (placed_byte 
 pub stored_four : (b : List ℕ) (at x y z w : ℕ) → at + 4 ≤ length b
     → set (set (set (set b at x) (at + 1) y) (at + 2) z) (at + 3) w ≡ placed b at (x ∷ y ∷ z ∷ w ∷ [])
 stored_four b at x y z w h = rw (stored_three b at x y z (omega arith)) (placed_byte b at (x ∷ y ∷ z ∷ []) w (at + 3) (omega arith) (omega arith))
+
+-- ---- bytes copied one by one
+
+-- after the first i
+pub record Copied (b : List ℕ) (at : ℕ) (bytes b' : List ℕ) (i : ℕ) : Type 0 where
+  pub holds : b' ≡ placed b at (take i bytes)
+  pub upto : i ≤ length bytes
+  pub room : at + length bytes ≤ length b
+  pub long : length b' ≡ length b
+
+pub copy_begun : (b : List ℕ) (at : ℕ) (bytes : List ℕ) → at + length bytes ≤ length b → Copied b at bytes b 0
+copy_begun b at bytes h = record { holds = sym (placed_none b at); upto = omega arith; room = h; long = refl }
+
+module _ (b : List ℕ) (at : ℕ) (bytes b' : List ℕ) (i : ℕ) (w : Copied b at bytes b' i) where
+  pub copy_turn : i < length bytes → Copied b at bytes (set b' (at + i) (get_or bytes i 0)) (i + 1)
+  copy_turn h =
+      let l = length-take-le i bytes w.upto in
+      let r = w.room in
+      let next : take (i + 1) bytes ≡ take i bytes ++ (get_or bytes i 0 ∷ []) = let e : i + 1 ≡ suc i = omega arith in rw e (take-suc bytes i 0 h) in
+      record {
+        holds = rw (w.holds, next) (placed_byte b at (take i bytes) (get_or bytes i 0) (at + i) (omega arith) (omega arith));
+        upto = omega arith;
+        room = w.room;
+        long = length-set b' (at + i) (get_or bytes i 0) ∙ w.long;
+      }
+
+  pub copy_ended : length bytes ≤ i → b' ≡ placed b at bytes
+  copy_ended h = w.holds ∙ rw (take_all i bytes h)
 
 -- ---- big-endian numbers
 

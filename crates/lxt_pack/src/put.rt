@@ -17,5 +17,8 @@ pub fn copy(out: &mut [u8], at: usize, bytes: &[u8])
     requires { at + length bytes.now ≤ length out.old }
     ensures { out.new ≡ placed out.old at bytes.now }
 {
-    out[at..at + bytes.len()].copy_from_slice(bytes);
+    // a loop: for copy_from_slice C's callers would have to link memmove
+    for (k, byte) in bytes.iter().enumerate() {
+        out[at + k] = *byte;
+    }
 }

@@ -14,7 +14,10 @@ fn copy_part(file: &[u8], from: usize, count: usize, names: &mut [u8], at: usize
     requires { (from + count ≤ length file.now) × (at + count ≤ length names.old) }
     ensures { names.new ≡ paste names.old at (drop from file.now) count }
 {
-    names[at..at + count].copy_from_slice(&file[from..from + count]);
+    // a loop: for copy_from_slice C's callers would have to link memmove
+    for j in 0..count {
+        names[at + j] = file[from + j];
+    }
 }
 
 // Zeros from `from` up to `to`.
