@@ -1,5 +1,6 @@
 -- Laws of how many bytes a change takes.
-use Rattle.std.specs.Prelude.{if◌then◌else◌}
+use Rattle.std.specs.Prelude.{Option, Some, None, if◌then◌else◌}
+use Rattle.std.proofs.lemmas.Option.{none-some, cond_some}
 use mir.Val.{bool_byte}
 use Prim.Native.Nat.{ℕ, zero, suc, ◌+◌, ◌*◌, ◌/◌, ◌≤◌, ◌<◌}
 use native.Mathlib.Omega.{arith}
@@ -16,12 +17,12 @@ use Rattle.lxt_format.specs.BasicsLaws.{on_test, both_and, and_both}
 use Rattle.lxt_format.specs.Changes.{symbol_size, packed_size}
 use Rattle.lxt_format.specs.declared.Kind.{Kind}
 use Rattle.lxt_format.specs.declared.Kind.TheVariants.{Bits, Integer, Real, Text}
-use Rattle.lxt_written.specs.WrittenChanges.{code_of, command_for, data_for, fewest_bytes}
+use Rattle.lxt_written.specs.WrittenChanges.{code_of, command_for, data_for, fewest_bytes, change_bytes}
 use Rattle.lxt_written.specs.Writing.{no_zero, is_symbol, is_bit, value_allowed}
-use Rattle.lxt_written.specs.CommandLaws.{length_packed, integer_codes, command_one, command_0, bit_symbol, no_data}
+use Rattle.lxt_written.specs.CommandLaws.{length_change, length_packed, integer_codes, command_one, command_0, bit_symbol, no_data}
 use Rattle.lxt_pack.specs.Symbols.{all_below, same_all}
 use Rattle.lxt_pack.proofs.SymbolLaws.{bit_is, symbols_codes, below_more, chosen_same, chosen_0, chosen_1, chosen_2}
-use Rattle.lxt_pack.specs.Change.{WidthFor, not_allowed, size_for, Sizes, Scales}
+use Rattle.lxt_pack.specs.Change.{WidthFor, size_for, change_size, AtMost, Sizes, Scales}
 
 -- ---- deltas
 
@@ -212,11 +213,11 @@ each_sum false false true h x y z ex ey ez = rw (ex, ey, ez)
 each_sum false false false h x y z ex ey ez = rw (ex, ey, ez)
 
 -- a value that is allowed has the bytes of its data, one that is not has none
-size_given : (kind : Kind) (width : ℕ) (value : List ℕ) → value_allowed kind width value ≡ true → size_for kind width value ≡ length (data_for kind value)
+size_given : (kind : Kind) (width : ℕ) (value : List ℕ) → value_allowed kind width value ≡ true → size_for kind width value ≡ Some (length (data_for kind value))
 unfolding size_for
 size_given kind width value e = rw e
 
-size_refused : (kind : Kind) (width : ℕ) (value : List ℕ) → value_allowed kind width value ≡ false → size_for kind width value ≡ not_allowed
+size_refused : (kind : Kind) (width : ℕ) (value : List ℕ) → value_allowed kind width value ≡ false → size_for kind width value ≡ None
 unfolding size_for
 size_refused kind width value e = rw e
 
@@ -229,29 +230,29 @@ single (x ∷ y ∷ v) h = absurd (omega arith)
 module _ (v : List ℕ) where
   -- ---- bits
 
-  pub bits_long : (width : ℕ) → (length v ≡ width → ⊥) → not_allowed ≡ size_for Bits width v
+  pub bits_long : (width : ℕ) → (length v ≡ width → ⊥) → None ≡ size_for Bits width v
   unfolding value_allowed
   bits_long width n =
       sym (size_refused Bits width v (rw (ne_eqb (length v) width n)))
 
   module _ (width : ℕ) (e : length v ≡ width) where
     -- where a byte is no symbol
-    pub bits_none : all_below 9 v ≡ false → not_allowed ≡ size_for Bits width v
+    pub bits_none : all_below 9 v ≡ false → None ≡ size_for Bits width v
     unfolding value_allowed
     bits_none n = sym (size_refused Bits width v (rw (eq-eqb (length v) width e, symbols_codes v ∙ n)))
 
     -- symbols under their command
     bits_given : all_below 9 v ≡ true → (c : ℕ) → command_for Bits v ≡ c
-        → packed_size (symbol_size c) (length v) ≡ size_for Bits width v
+        → Some (packed_size (symbol_size c) (length v)) ≡ size_for Bits width v
     unfolding value_allowed data_for
     bits_given nine c q =
         let value : List ℕ = v in
         let allowed : value_allowed Bits width value ≡ true = rw (eq-eqb (length v) width e, symbols_codes value ∙ nine) in
-        sym (size_given Bits width value allowed ∙ length_packed (command_for Bits value) value ∙ rw q)
+        sym (size_given Bits width value allowed ∙ ap Some (length_packed (command_for Bits value) value ∙ rw q))
 
     module _ (nine : all_below 9 v ≡ true) where
       -- all are one
-      bits_same : same_all v ≡ true → 1 ≤ width → packed_size 0 (length v) ≡ size_for Bits width v
+      bits_same : same_all v ≡ true → 1 ≤ width → Some (packed_size 0 (length v)) ≡ size_for Bits width v
       bits_same s n =
           let value : List ℕ = v in
           let some : 1 ≤ length value = omega arith in
@@ -259,22 +260,22 @@ module _ (v : List ℕ) where
           rw (no_data command (omega arith)) at (bits_given nine command (chosen_same value nine s some))
 
       module _ (mixed : same_all v ≡ false) where
-        bits_two : all_below 2 v ≡ true → packed_size 1 (length v) ≡ size_for Bits width v
+        bits_two : all_below 2 v ≡ true → Some (packed_size 1 (length v)) ≡ size_for Bits width v
         unfolding symbol_size
         bits_two h = bits_given nine 0 (chosen_0 v nine mixed h)
 
         module _ (more : all_below 2 v ≡ false) where
-          bits_four : all_below 4 v ≡ true → packed_size 2 (length v) ≡ size_for Bits width v
+          bits_four : all_below 4 v ≡ true → Some (packed_size 2 (length v)) ≡ size_for Bits width v
           unfolding symbol_size
           bits_four h = bits_given nine 1 (chosen_1 v nine mixed more h)
 
-          bits_nine : all_below 4 v ≡ false → packed_size 4 (length v) ≡ size_for Bits width v
+          bits_nine : all_below 4 v ≡ false → Some (packed_size 4 (length v)) ≡ size_for Bits width v
           unfolding symbol_size
           bits_nine h = bits_given nine 2 (chosen_2 v nine mixed more h)
 
       -- by what is seen
       bits_each_lem : 1 ≤ width
-          → packed_size (bits_each (same_all v) (all_below 2 v) (all_below 4 v)) (length v)
+          → Some (packed_size (bits_each (same_all v) (all_below 2 v) (all_below 4 v)) (length v))
           ≡ size_for Bits width v
       unfolding bits_each
       bits_each_lem n =
@@ -287,7 +288,7 @@ module _ (v : List ℕ) where
           (λ t. on_test (all_below 4 value) (λ f. rw (s, t, f) (bits_four s t f)) (λ f. rw (s, t, f) (bits_nine s t f))))
 
     -- one symbol
-    pub bits_one : length v ≡ 1 → (r : ℕ) → r ≡ (if ltb (code_of (get_or v 0 0)) 9 then 0 else not_allowed) → r ≡ size_for Bits width v
+    pub bits_one : length v ≡ 1 → (r : Option ℕ) → r ≡ (if ltb (code_of (get_or v 0 0)) 9 then Some 0 else None) → r ≡ size_for Bits width v
     unfolding same_all all_below all packed_size
     bits_one one r er =
         let first : ℕ = get_or v 0 0 in
@@ -297,36 +298,36 @@ module _ (v : List ℕ) where
         let nine : all_below 9 v ≡ true = rw (is, y) in
         let same : same_all v ≡ true = rw (is, eq-eqb first first refl) in
         let none : 0 ≡ (0 * (length v) + 7) / 8 = omega arith in
-        er ∙ rw y (none ∙ bits_same nine same (omega arith)))
+        er ∙ rw y (ap Some none ∙ bits_same nine same (omega arith)))
         (λ y.
         let no_symbol : all_below 9 v ≡ false = rw (is, y) in
         er ∙ rw y (bits_none no_symbol))
 
     -- bits, of which it is seen whether all are one
     pub bits_of_two : 1 ≤ width → (same bits : Bool) → same ≡ same_all v → bits ≡ all_below 2 v → bits ≡ true
-        → (x r : ℕ) → x ≡ bool_byte (not same) → r ≡ packed_size x (length v) → r ≡ size_for Bits width v
+        → (x r : ℕ) → x ≡ bool_byte (not same) → r ≡ packed_size x (length v) → Some r ≡ size_for Bits width v
     bits_of_two n same bits es eb h x r ex er =
         let value : List ℕ = v in
         let two = sym eb ∙ h in
         let x-is = each_of_two same (all_below 4 value) x ex in
         let b : x ≡ bits_each (same_all value) (all_below 2 value) (all_below 4 value) = rw (← es, two) x-is in
-        er ∙ ap (λ k. packed_size k (length v)) b ∙ bits_each_lem (below_more 2 9 (omega arith) value two) n
+        ap Some er ∙ ap (λ k. Some (packed_size k (length v))) b ∙ bits_each_lem (below_more 2 9 (omega arith) value two) n
 
     -- symbols, of which all is seen
     pub bits_seen : 1 ≤ width → (same bits four nine : Bool) → same ≡ same_all v → bits ≡ all_below 2 v
         → four ≡ all_below 4 v → nine ≡ all_below 9 v → nine ≡ true
         → (x y z r : ℕ) → x ≡ bool_byte (not bits) → y ≡ bool_byte (not four) → z ≡ bool_byte (not same)
-        → r ≡ packed_size ((1 + x + 2 * y) * z) (length v) → r ≡ size_for Bits width v
+        → r ≡ packed_size ((1 + x + 2 * y) * z) (length v) → Some r ≡ size_for Bits width v
     bits_seen n same bits four nine es eb ef en h x y z r ex ey ez er =
         let value : List ℕ = v in
         let more : bits ≡ true → four ≡ true = λ t. ef ∙ below_more 2 4 (omega arith) value (sym eb ∙ t) in
         let sum = each_sum same bits four more x y z ex ey ez in
         let b : (1 + x + 2 * y) * z ≡ bits_each (same_all value) (all_below 2 value) (all_below 4 value) = rw (← es, ← eb, ← ef) sum in
-        er ∙ ap (λ k. packed_size k (length v)) b ∙ bits_each_lem (sym en ∙ h) n
+        ap Some er ∙ ap (λ k. Some (packed_size k (length v))) b ∙ bits_each_lem (sym en ∙ h) n
 
   -- ---- integers
 
-  pub integer_long : (length v ≡ 32 → ⊥) → not_allowed ≡ size_for Integer 32 v
+  pub integer_long : (length v ≡ 32 → ⊥) → None ≡ size_for Integer 32 v
   unfolding value_allowed
   integer_long n = sym (size_refused Integer 32 v (rw (ne_eqb (length v) 32 n)))
 
@@ -335,14 +336,14 @@ module _ (v : List ℕ) where
     some = omega arith
 
     -- bits under their command
-    integer_size : all is_bit v ≡ true → (c : ℕ) → command_for Integer v ≡ c → packed_size (symbol_size c) 32 ≡ size_for Integer 32 v
+    integer_size : all is_bit v ≡ true → (c : ℕ) → command_for Integer v ≡ c → Some (packed_size (symbol_size c) 32) ≡ size_for Integer 32 v
     unfolding value_allowed data_for
     integer_size bits c q =
         let value : List ℕ = v in
         let allowed : value_allowed Integer 32 value ≡ true = rw (eq-eqb (length v) 32 e, bits) in
-        sym (size_given Integer 32 value allowed ∙ length_packed (command_for Integer value) value ∙ rw (q, e))
+        sym (size_given Integer 32 value allowed ∙ ap Some (length_packed (command_for Integer value) value ∙ rw (q, e)))
 
-    pub integer_none : all_below 2 v ≡ false → not_allowed ≡ size_for Integer 32 v
+    pub integer_none : all_below 2 v ≡ false → None ≡ size_for Integer 32 v
     unfolding value_allowed
     integer_none n =
         let value : List ℕ = v in
@@ -352,14 +353,14 @@ module _ (v : List ℕ) where
       are_bits : all is_bit v ≡ true
       are_bits = bits_below v ∙ bits
 
-      pub integer_same : same_all v ≡ true → 0 ≡ size_for Integer 32 v
+      pub integer_same : same_all v ≡ true → Some 0 ≡ size_for Integer 32 v
       unfolding same_all packed_size
       integer_same s =
           let value : List ℕ = v in
           let c = command_one Integer (length value) value refl (as_integer value some are_bits) (get_or value 0 0) some s in
           rw (no_data (3 + code_of (get_or value 0 0)) (omega arith)) at (integer_size are_bits (3 + code_of (get_or value 0 0)) c)
 
-      pub integer_mixed : same_all v ≡ false → 4 ≡ size_for Integer 32 v
+      pub integer_mixed : same_all v ≡ false → Some 4 ≡ size_for Integer 32 v
       unfolding same_all symbol_size packed_size
       integer_mixed s =
           let value : List ℕ = v in
@@ -368,22 +369,22 @@ module _ (v : List ℕ) where
 
   -- ---- reals
 
-  pub real_given : length v ≡ 8 → 8 ≡ size_for Real 0 v
+  pub real_given : length v ≡ 8 → Some 8 ≡ size_for Real 0 v
   unfolding value_allowed data_for
-  real_given e = sym (size_given Real 0 v (rw (eq-eqb (length v) 8 e)) ∙ e)
+  real_given e = sym (size_given Real 0 v (rw (eq-eqb (length v) 8 e)) ∙ ap Some e)
 
-  pub real_none : (length v ≡ 8 → ⊥) → not_allowed ≡ size_for Real 0 v
+  pub real_none : (length v ≡ 8 → ⊥) → None ≡ size_for Real 0 v
   unfolding value_allowed
   real_none n = sym (size_refused Real 0 v (rw (ne_eqb (length v) 8 n)))
 
   -- ---- texts
 
-  pub text_given : no_zero v ≡ true → length v + 1 ≡ size_for Text 0 v
+  pub text_given : no_zero v ≡ true → Some (length v + 1) ≡ size_for Text 0 v
   unfolding value_allowed data_for
   text_given e =
-      sym (size_given Text 0 v e ∙ length-append v (0 ∷ []))
+      sym (size_given Text 0 v e ∙ ap Some (length-append v (0 ∷ [])))
 
-  pub text_none : no_zero v ≡ false → not_allowed ≡ size_for Text 0 v
+  pub text_none : no_zero v ≡ false → None ≡ size_for Text 0 v
   unfolding value_allowed
   text_none e = sym (size_refused Text 0 v e)
 
@@ -401,5 +402,21 @@ width_real kind width e h = rw e at h
 pub width_text : (kind : Kind) (width : ℕ) → kind ≡ Text → WidthFor kind width → width ≡ 0
 width_text kind width e h = rw e at h
 
-pub sizes_of_lem : (kind k : Kind) (width w : ℕ) (value : List ℕ) (r : ℕ) → kind ≡ k → width ≡ w → Sizes k w value r → Sizes kind width value r
+pub sizes_of_lem : (kind k : Kind) (width w : ℕ) (value : List ℕ) (r : Option ℕ) → kind ≡ k → width ≡ w → Sizes k w value r → Sizes kind width value r
 sizes_of_lem kind k width w value r e h s = rw (e, h) s
+
+-- ---- a change
+
+module _ (kind : Kind) (width delta : ℕ) (value : List ℕ) where
+  -- none, where its value is not allowed
+  pub change_refused : None ≡ size_for kind width value → None ≡ change_size kind width delta value
+  unfolding size_for change_size
+  change_refused e = on_test (value_allowed kind width value) (λ y. absurd (none-some (length (data_for kind value)) (e ∙ rw y))) (λ y. rw y)
+
+  -- its command byte and its delta, and then its data
+  pub change_given : (n k : ℕ) → Some n ≡ size_for kind width value → k ≡ fewest_bytes delta → Some (1 + k + n) ≡ change_size kind width delta value
+  unfolding size_for change_size
+  change_given n k e f =
+      let given = cond_some (value_allowed kind width value) (length (data_for kind value)) n (sym e) in
+      let sum : 1 + k + n ≡ length (change_bytes kind delta value) = omega (arith, length_change kind delta value, given.1, f) in
+      rw given.0 (ap Some sum)

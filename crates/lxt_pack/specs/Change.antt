@@ -1,5 +1,5 @@
 -- What the functions over one change answer and ask.
-use Rattle.std.specs.Prelude.{ℕ, ◌+◌, ◌*◌, ◌-◌, ◌≤◌, ◌<◌, ◌≡◌, true, List, ◌∷◌, length, if◌then◌else◌}
+use Rattle.std.specs.Prelude.{ℕ, ⊤, ◌+◌, ◌*◌, ◌-◌, ◌≤◌, ◌<◌, ◌≡◌, true, Option, Some, None, List, ◌∷◌, length, if◌then◌else◌}
 use Rattle.lxt_format.specs.Basics.{all}
 use Rattle.lxt_format.specs.Buffers.{placed}
 use Rattle.lxt_format.specs.Changes.{symbol_size, packed_size}
@@ -15,16 +15,21 @@ WidthFor Integer width = width ≡ 32
 WidthFor Real width = width ≡ 0
 WidthFor Text width = width ≡ 0
 
--- the bytes of a value's data, or 2 ^ 33 where it is not allowed
-abbrev pub not_allowed : ℕ
-not_allowed = 8589934592
+-- the bytes of a value's data, and of its change, where the value is allowed
+unfoldable pub size_for : Kind → ℕ → List ℕ → Option ℕ
+size_for kind width value = if value_allowed kind width value then Some (length (data_for kind value)) else None
 
-unfoldable pub size_for : Kind → ℕ → List ℕ → ℕ
-size_for kind width value = if value_allowed kind width value then length (data_for kind value) else not_allowed
+unfoldable pub change_size : Kind → ℕ → ℕ → List ℕ → Option ℕ
+change_size kind width delta value = if value_allowed kind width value then Some (length (change_bytes kind delta value)) else None
 
-pub record Sizes (kind : Kind) (width : ℕ) (value : List ℕ) (r : ℕ) : Type 0 where
+-- where there is a number, it is at most this
+abbrev pub AtMost : ℕ → Option ℕ → Type 0
+AtMost most (Some n) = n ≤ most
+AtMost most None = ⊤
+
+pub record Sizes (kind : Kind) (width : ℕ) (value : List ℕ) (r : Option ℕ) : Type 0 where
   pub is : r ≡ size_for kind width value
-  pub most : r ≤ not_allowed
+  pub most : AtMost 4294967296 r
 
 -- a command byte and a delta
 unfoldable pub head_of : ℕ → ℕ → List ℕ

@@ -4,7 +4,7 @@ ghost use Rattle.lxt_format.specs.Buffers.{placed};
 ghost use Rattle.lxt_format.specs.Changes.{symbol_size, packed_size};
 ghost use Rattle.lxt_format.specs.declared.Kind.TheVariants.{Bits, Integer, Real, Text};
 ghost use Rattle.lxt_written.specs.WrittenChanges.{code_of, fewest_bytes, packed_symbols};
-ghost use Rattle.lxt_pack.specs.Change.{WidthFor, not_allowed, size_for, Sizes, head_of, Scales, HeadAsked, Held, Sound, Puts};
+ghost use Rattle.lxt_pack.specs.Change.{WidthFor, change_size, AtMost, Sizes, head_of, Scales, HeadAsked, Held, Sound, Puts};
 
 use crate::{put, symbols};
 use lxt_format::Kind;
@@ -38,30 +38,27 @@ fn packed_size(b: usize, width: usize) -> usize
     (b * width + 7) / 8
 }
 
-// The answer where a value is not allowed; no value has so many bytes.
-pub const NONE: usize = 0x2_0000_0000;
-
 // The bytes of the data of one symbol: none.
-fn size_of_one(symbol: u8) -> usize
-    ensures { (result ≡ (if ltb (code_of symbol) 9 then 0 else not_allowed)) × (result ≤ not_allowed) }
+fn size_of_one(symbol: u8) -> Option<usize>
+    ensures { (result ≡ (if ltb (code_of symbol) 9 then Some 0 else None)) × AtMost 4294967296 result }
 {
     if symbols::is_symbol(symbol) {
-        return 0;
+        return Some(0);
     }
-    NONE
+    None
 }
 
 // Past so many symbols it pays to look first whether all are 0 and 1.
 const MANY: usize = 64;
 
 // The bytes of the data of symbols, of which there are to be `width`.
-fn bits_size(width: u64, value: &[u8]) -> usize
+fn bits_size(width: u64, value: &[u8]) -> Option<usize>
     requires { (length value.now < 4294967296) × (1 ≤ width) × (width ≤ 4096) }
     ensures { Sizes Bits width value.now result }
 {
     let size = value.len();
     if size as u64 != width {
-        return NONE;
+        return None;
     }
     if size == 1 {
         return size_of_one(value[0]);
@@ -69,57 +66,57 @@ fn bits_size(width: u64, value: &[u8]) -> usize
     if MANY < size {
         let seen = symbols::look(value);
         if seen.bits {
-            return packed_size(usize::from(!seen.same), size);
+            return Some(packed_size(usize::from(!seen.same), size));
         }
     }
     let seen = symbols::look_in_detail(value);
     if !seen.nine {
-        return NONE;
+        return None;
     }
     let b = (1 + usize::from(!seen.bits) + 2 * usize::from(!seen.four)) * usize::from(!seen.same);
-    packed_size(b, size)
+    Some(packed_size(b, size))
 }
 
 // The bytes of the data of an integer: 32 symbols 0 or 1.
-fn integer_size(value: &[u8]) -> usize
+fn integer_size(value: &[u8]) -> Option<usize>
     requires { length value.now < 4294967296 }
     ensures { Sizes Integer 32 value.now result }
 {
     if value.len() != 32 {
-        return NONE;
+        return None;
     }
     let seen = symbols::look(value);
     if seen.bits {
         if seen.same {
-            return 0;
+            return Some(0);
         }
-        return 4;
+        return Some(4);
     }
-    NONE
+    None
 }
 
-fn real_size(value: &[u8]) -> usize
+fn real_size(value: &[u8]) -> Option<usize>
     requires { length value.now < 4294967296 }
     ensures { Sizes Real 0 value.now result }
 {
     if value.len() == 8 {
-        return 8;
+        return Some(8);
     }
-    NONE
+    None
 }
 
-fn text_size(value: &[u8]) -> usize
+fn text_size(value: &[u8]) -> Option<usize>
     requires { length value.now < 4294967296 }
     ensures { Sizes Text 0 value.now result }
 {
     if !value.contains(&0) {
-        return value.len() + 1;
+        return Some(value.len() + 1);
     }
-    NONE
+    None
 }
 
-// The bytes of a value's data, or NONE.
-fn data_size(kind: Kind, width: u64, value: &[u8]) -> usize
+// The bytes of a value's data, where the value is one of the kind and width.
+fn data_size(kind: Kind, width: u64, value: &[u8]) -> Option<usize>
     requires { (length value.now < 4294967296) × WidthFor kind width }
     ensures { Sizes kind width value.now result }
 {
@@ -131,12 +128,13 @@ fn data_size(kind: Kind, width: u64, value: &[u8]) -> usize
     }
 }
 
-// The bytes of a change; more than any file has where the value is none of the kind and width.
-pub fn size_of(kind: Kind, width: u64, value: &[u8], delta: u32) -> usize
+// The bytes of a change, where its value is one of the kind and width.
+pub fn size_of(kind: Kind, width: u64, value: &[u8], delta: u32) -> Option<usize>
     requires { (length value.now < 4294967296) × WidthFor kind width }
-    ensures { (result ≡ 1 + fewest_bytes delta + size_for kind width value.now) × (result ≤ 5 + not_allowed) }
+    ensures { (result ≡ change_size kind width delta value.now) × AtMost 4294967301 result }
 {
-    1 + delta_size(delta) + data_size(kind, width, value)
+    let size = data_size(kind, width, value)?;
+    Some(1 + delta_size(delta) + size)
 }
 
 // ---- its bytes

@@ -18,7 +18,7 @@ use Rattle.lxt_written.specs.WrittenChanges.{last_of, Laid, pair_of, lay_at, lay
 use Rattle.lxt_written.specs.WrittenFile.{new_times_after, entries_of}
 use Rattle.lxt_written.specs.Writing.{value_of_allowed, changes_allowed}
 use Rattle.lxt_facilities.proofs.NameLaws.{rows_next, rows_none}
-use Rattle.lxt_writer.specs.Changes.{nameless, lay_rows, end_from, sound_from, Fresh, row_allowed, row_bytes, RowSized, is_new, entries_left}
+use Rattle.lxt_writer.specs.Changes.{nameless, lay_rows, end_from, sound_from, Fresh, row_allowed, row_bytes, RowTakes, is_new, entries_left}
 use Rattle.lxt_writer.specs.Changes.{ChangesFound, Measuring}
 use Rattle.lxt_writer.proofs.RowLaws.{row_known, row_laid, row_long, row_newest}
 
@@ -134,10 +134,9 @@ module _ (rows changes : List (List ℕ)) (values : List ℕ) where
 
   module _ (i o time entries : ℕ) (last : List ℕ) (m : Measuring rows changes values i o time entries last) where
     -- the facility of a row that is allowed has a place in the table
-    pub table_known : (row : List ℕ) (f r : ℕ) → f ≡ get_or row 0 0 → RowSized rows row values last o r → r ≤ longest_file - o → f < length last
-    table_known row f r e sized short =
-        let allowed : row_allowed rows row values ≡ true = sized.allowed (omega arith) in
-        let known = row_known rows row values allowed in
+    pub table_known : (row : List ℕ) (f r : ℕ) → f ≡ get_or row 0 0 → RowTakes rows row values last o r → f < length last
+    table_known row f r e sized =
+        let known = row_known rows row values sized.allowed in
         omega (arith, m.laying.free.long)
 
     -- the row that comes next
@@ -160,28 +159,30 @@ module _ (rows changes : List (List ℕ)) (values : List ℕ) where
       unfolding next
       time_falls falls = sound_here ∙ rw (lt-leb time (get_or (get_or changes i []) 1 0) falls)
 
-      -- it is not allowed, or passes the end of the longest file
-      pub row_refused : (r : ℕ) → RowSized rows (get_or changes i []) values last o r → longest_file < o + r → sound_from rows values 4 [] 0 changes ≡ false
+      -- it is not allowed
+      pub row_refused : row_allowed rows (get_or changes i []) values ≡ false → sound_from rows values 4 [] 0 changes ≡ false
+      unfolding next step
+      row_refused none = sound_here ∙ rw (none, and-false)
+
+      -- it passes the end of the longest file
+      pub row_too_long : (r : ℕ) → RowTakes rows (get_or changes i []) values last o r → longest_file < o + r → sound_from rows values 4 [] 0 changes ≡ false
       unfolding next step sound_from
-      row_refused r sized long =
-          on_test (row_allowed rows next values)
-          (λ y.
-          let size : r ≡ length (row_bytes rows next values last o) = sized.size y in
-          let bytes = ap length (row_laid rows next values last m.before o m.laying y) in
+      row_too_long r sized long =
+          let size : r ≡ length (row_bytes rows next values last o) = sized.size in
+          let bytes = ap length (row_laid rows next values last m.before o m.laying sized.allowed) in
           let past : longest_file < end_from rows values (o + length step.bytes) (pair_of step ∷ m.before) (drop (i + 1) changes) = omega arith in
-          sound_here ∙ rw (lt-leb _ _ past, and-false, and-false, and-false))
-          (λ y. sound_here ∙ rw (y, and-false))
+          sound_here ∙ rw (lt-leb _ _ past, and-false, and-false, and-false)
 
       -- it is laid
-      pub measure_turn : time ≤ get_or (get_or changes i []) 1 0 → (r k : ℕ) → RowSized rows (get_or changes i []) values last o r → o + r ≤ longest_file
+      pub measure_turn : time ≤ get_or (get_or changes i []) 1 0 → (r k : ℕ) → RowTakes rows (get_or changes i []) values last o r → o + r ≤ longest_file
           → k ≡ bool_byte (is_new o time (get_or (get_or changes i []) 1 0)) → (f : ℕ) → f ≡ get_or (get_or changes i []) 0 0
           → Measuring rows changes values (i + 1) (o + r) (get_or (get_or changes i []) 1 0) (entries + k) (set last f o)
       unfolding next step lay_at change_of
       measure_turn rises r k sized short counted f ef =
           let row : List ℕ = get_or changes i [] in
           let one = at_most_one (is_new o time (get_or row 1 0)) k counted in
-          let allowed : row_allowed rows row values ≡ true = sized.allowed (omega arith) in
-          let size : r ≡ length (row_bytes rows row values last o) = sized.size allowed in
+          let allowed : row_allowed rows row values ≡ true = sized.allowed in
+          let size : r ≡ length (row_bytes rows row values last o) = sized.size in
           let some = row_long rows row values last m.before o m.laying allowed in
           let e : length step.bytes ≡ r = ap length (row_laid rows row values last m.before o m.laying allowed) ∙ sym size in
           let place : o + length step.bytes ≡ o + r = ap (λ z. o + z) e in

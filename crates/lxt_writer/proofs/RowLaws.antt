@@ -1,4 +1,6 @@
 -- Laws of one row of the table of changes: whether it is allowed, its bytes, and the table of the newest changes after it.
+use Rattle.std.specs.Prelude.{Option, Some, None}
+use Rattle.std.proofs.lemmas.Option.{none-some, cond_some}
 use Prim.Native.Nat.{ℕ, zero, suc, ◌+◌, ◌-◌, ◌≤◌, ◌<◌}
 use native.Mathlib.Omega.{arith}
 use native.Mathlib.Decide.{ℕ_discrete}
@@ -16,11 +18,11 @@ use Rattle.lxt_format.specs.declared.Kind.{Kind}
 use Rattle.lxt_format.specs.declared.Kind.TheVariants.{Bits, Integer, Real, Text}
 use Rattle.lxt_format.specs.declared.Pair.{Pair}
 use Rattle.lxt_written.specs.Input.{part, kind_of_code, facility_of, change_of, change_row_allowed}
-use Rattle.lxt_written.specs.WrittenChanges.{data_for, fewest_bytes, no_facility, numbered, last_of, pair_of, lay_at}
+use Rattle.lxt_written.specs.WrittenChanges.{change_bytes, no_facility, numbered, last_of, pair_of, lay_at}
 use Rattle.lxt_written.specs.Writing.{facts_for, value_allowed, value_of_allowed}
-use Rattle.lxt_written.specs.CommandLaws.{length_change, change_long}
+use Rattle.lxt_written.specs.CommandLaws.{change_long}
 use Rattle.lxt_pack.proofs.PartLaws.{part_is}
-use Rattle.lxt_pack.specs.Change.{WidthFor, not_allowed, size_for}
+use Rattle.lxt_pack.specs.Change.{WidthFor, change_size, AtMost}
 use Rattle.lxt_writer.specs.Changes.{nameless, Laying, row_allowed, row_bytes, RowSized}
 
 -- ---- the facility of a row
@@ -68,28 +70,24 @@ module _ (pool : List ℕ) (start size : ℕ) (inside : start + size ≤ length 
 -- ---- how many bytes a row takes
 
 -- a row whose facility is none
-pub row_outside : (rows : List (List ℕ)) (row values last : List ℕ) (o : ℕ) → length rows ≤ get_or row 0 0 → RowSized rows row values last o not_allowed
+pub row_outside : (rows : List (List ℕ)) (row values : List ℕ) → length rows ≤ get_or row 0 0 → row_allowed rows row values ≡ false
 unfolding row_allowed value_of_allowed
-row_outside rows row values last o h =
+row_outside rows row values h =
     let f : ℕ = get_or row 0 0 in
     let n = length-map rows (facility_of []) in
     let out : ltb f (length (nameless rows)) ≡ false = le-ltb f (length (nameless rows)) (omega arith) in
-    record {
-      allowed = λ k. absurd (omega arith);
-      size = λ y. absurd (true≢false (sym (and_both (ltb f (length (nameless rows))) _ (and_both (change_row_allowed values row) _ y).1).0 ∙ out));
-      most = omega arith;
-    }
+    on_test (row_allowed rows row values)
+    (λ y. absurd (true≢false (sym (and_both (ltb f (length (nameless rows))) _ (and_both (change_row_allowed values row) _ y).1).0 ∙ out)))
+    (λ y. y)
 
 -- one whose part passes the end of the pool
-pub row_past : (rows : List (List ℕ)) (row values last : List ℕ) (o : ℕ) → length values < get_or row 2 0 + get_or row 3 0
-    → RowSized rows row values last o not_allowed
+pub row_past : (rows : List (List ℕ)) (row values : List ℕ) → length values < get_or row 2 0 + get_or row 3 0
+    → row_allowed rows row values ≡ false
 unfolding row_allowed change_row_allowed
-row_past rows row values last o h =
-    record {
-      allowed = λ k. absurd (omega arith);
-      size = λ y. absurd (true≢false (sym (and_both (leb (get_or row 2 0 + get_or row 3 0) (length values)) _ y).0 ∙ lt-leb _ _ h));
-      most = omega arith;
-    }
+row_past rows row values h =
+    on_test (row_allowed rows row values)
+    (λ y. absurd (true≢false (sym (and_both (leb (get_or row 2 0 + get_or row 3 0) (length values)) _ y).0 ∙ lt-leb _ _ h)))
+    (λ y. y)
 
 -- one whose facility is known, and whose part lies in the pool
 module _ (rows : List (List ℕ)) (row values last : List ℕ) (o : ℕ) (known : get_or row 0 0 < length rows)
@@ -109,26 +107,26 @@ module _ (rows : List (List ℕ)) (row values last : List ℕ) (o : ℕ) (known 
       rw (le-leb _ _ inside, lt-ltb (get_or row 0 0) (length (nameless rows)) (omega arith), numbered_row rows (get_or row 0 0) known)
 
   -- and then it takes the bytes of its change
-  pub row_sized : (kind : Kind) (width delta r : ℕ) → kind ≡ kind_of_code (get_or facility 2 0)
+  pub row_sized : (kind : Kind) (width delta : ℕ) (r : Option ℕ) → kind ≡ kind_of_code (get_or facility 2 0)
       → width ≡ (facts_by kind (get_or facility 3 0) (get_or facility 4 0)).width
       → delta ≡ o - get_or last (get_or row 0 0) 0 - 2
-      → r ≡ 1 + fewest_bytes delta + size_for kind width (lent values (get_or row 2 0) (get_or row 3 0)) → r ≤ 5 + not_allowed
+      → r ≡ change_size kind width delta (lent values (get_or row 2 0) (get_or row 3 0)) → AtMost 4294967301 r
       → RowSized rows row values last o r
-  unfolding size_for row_bytes part
-  row_sized kind width delta r ek ew ed er most =
+  unfolding change_size row_bytes part
+  row_sized kind width delta None ek ew ed er most =
       let value : List ℕ = part values (get_or row 2 0) (get_or row 3 0) in
-      let is = lent_part values (get_or row 2 0) (get_or row 3 0) inside in
-      let same : row_allowed rows row values ≡ value_allowed kind width value = row_value ∙ rw (ew, ek) in
-      let er' = rw is at er in
+      let er' = rw (lent_part values (get_or row 2 0) (get_or row 3 0) inside) at er in
+      row_value
+      ∙ rw (← ek, ← ew)
+      (on_test (value_allowed kind width value) (λ y. absurd (none-some (length (change_bytes kind delta value)) (er' ∙ rw y))) (λ y. y))
+  row_sized kind width delta (Some r) ek ew ed er most =
+      let value : List ℕ = part values (get_or row 2 0) (get_or row 3 0) in
+      let er' = rw (lent_part values (get_or row 2 0) (get_or row 3 0) inside) at er in
+      let given = cond_some (value_allowed kind width value) (length (change_bytes kind delta value)) r (sym er') in
       record {
-        allowed = λ k.
-            on_test (value_allowed kind width value)
-            (λ y. same ∙ y)
-            (λ y. let s : r ≡ 1 + fewest_bytes delta + not_allowed = er' ∙ rw y in absurd (omega arith));
-        size = λ y.
-            let s : r ≡ 1 + fewest_bytes delta + length (data_for kind value) = er' ∙ rw (sym same ∙ y) in
-            s ∙ sym (length_change kind delta value) ∙ rw (ek, ed);
-        most = omega arith;
+        allowed = row_value ∙ rw (← ek, ← ew) given.0;
+        size = sym given.1 ∙ rw (ek, ed);
+        most = most;
       }
 
 -- ---- the change of a row

@@ -70,11 +70,15 @@ row_bytes rows row values last o =
     (o - get_or last (get_or row 0 0) 0 - 2)
     (part values (get_or row 2 0) (get_or row 3 0))
 
--- how many these are; where the row is not allowed, more than a file has
-pub record RowSized (rows : List (List ℕ)) (row values last : List ℕ) (o r : ℕ) : Type 0 where
-  pub allowed : r ≤ longest_file → row_allowed rows row values ≡ true
-  pub size : row_allowed rows row values ≡ true → r ≡ length (row_bytes rows row values last o)
-  pub most : r ≤ 8589934597
+-- how many these are, where the row is allowed
+pub record RowTakes (rows : List (List ℕ)) (row values last : List ℕ) (o r : ℕ) : Type 0 where
+  pub allowed : row_allowed rows row values ≡ true
+  pub size : r ≡ length (row_bytes rows row values last o)
+  pub most : r ≤ 4294967301
+
+abbrev pub RowSized : List (List ℕ) → List ℕ → List ℕ → List ℕ → ℕ → Option ℕ → Type 0
+RowSized rows row values last o (Some r) = RowTakes rows row values last o r
+RowSized rows row values last o None = row_allowed rows row values ≡ false
 
 -- ---- the time table
 

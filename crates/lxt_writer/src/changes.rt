@@ -28,20 +28,26 @@ fn facility_of(row: [u32; 4]) -> usize
 
 // ---- the first pass
 
-// The bytes of the change of a row at `at`, after those that the table has of each facility; more than any file
-// has where the row is not allowed.
-fn row_size(facilities: &[[u32; 5]], row: [u32; 4], values: &[u8], last: &[u32], at: usize) -> usize
+// The bytes of the change of a row at `at`, after those that the table has of each facility, where the row is
+// allowed.
+fn row_size(
+    facilities: &[[u32; 5]],
+    row: [u32; 4],
+    values: &[u8],
+    last: &[u32],
+    at: usize,
+) -> Option<usize>
     requires { Widths facilities.now × Free last.now (length facilities.now) at }
     ensures { RowSized facilities.now row values.now last.now at result }
 {
     let f = row[FACILITY] as usize;
     if facilities.len() <= f {
-        return change::NONE;
+        return None;
     }
     let start = row[VALUE_START] as usize;
     let end = start + row[VALUE_LENGTH] as usize;
     if values.len() < end {
-        return change::NONE;
+        return None;
     }
     let facility = facilities[f];
     let delta = at - last[f] as usize - 2;
@@ -83,7 +89,7 @@ pub fn measure(
         if row[TIME] < time {
             return None;
         }
-        let size = row_size(facilities, *row, values, last, at);
+        let size = row_size(facilities, *row, values, last, at)?;
         if File::LONGEST - at < size {
             return None;
         }

@@ -5,7 +5,7 @@ use borrow.Author.Tests.{not-true, not-false}
 use Rattle.lxt_pack.proofs.change.bits_size.Goals as goal
 
 pub returns-then-size-width : goal.returns-then-size-width
-returns-then-size-width c = record { is = search bits_long; most = omega arith }
+returns-then-size-width c = record { is = search bits_long; most = tt }
 
 pub returns-then-size-eq1 : goal.returns-then-size-eq1
 returns-then-size-eq1 c =
@@ -29,7 +29,7 @@ returns-then-not-seen c =
     let long = c.if-size-width.false in
     let detail = c.look_in_detail-seen.ensures in
     let none = sym detail.four_value.1 ∙ not-true _ c.if-not-seen.true in
-    record { is = bits_none _ _ long none; most = omega arith }
+    record { is = bits_none _ _ long none; most = tt }
 
 pub overflow_mul-b-2 : goal.overflow_mul-b-2
 overflow_mul-b-2 c =

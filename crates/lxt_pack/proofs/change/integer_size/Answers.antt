@@ -4,7 +4,7 @@ use Rattle.lxt_pack.proofs.SizeLaws.{integer_long, integer_none, integer_same, i
 use Rattle.lxt_pack.proofs.change.integer_size.Goals as goal
 
 pub returns-then-value-ne32 : goal.returns-then-value-ne32
-returns-then-value-ne32 c = record { is = search integer_long; most = omega arith }
+returns-then-value-ne32 c = record { is = search integer_long; most = tt }
 
 pub returns-then-seen-2 : goal.returns-then-seen-2
 returns-then-seen-2 c =
@@ -19,4 +19,4 @@ returns-then-seen c =
 pub returns : goal.returns
 returns c =
     let seen = c.look-seen.ensures in
-    record { is = integer_none _ c.if-value-ne32.false (sym seen.1 ∙ c.if-seen.false); most = omega arith }
+    record { is = integer_none _ c.if-value-ne32.false (sym seen.1 ∙ c.if-seen.false); most = tt }

@@ -6,4 +6,4 @@ pub returns-then-is_symbol : goal.returns-then-is_symbol
 returns-then-is_symbol c = (rw (sym c.is_symbol.ensures ∙ c.if-is_symbol.true), omega arith)
 
 pub returns : goal.returns
-returns c = (rw (sym c.is_symbol.ensures ∙ c.if-is_symbol.false), omega arith)
+returns c = (rw (sym c.is_symbol.ensures ∙ c.if-is_symbol.false), tt)

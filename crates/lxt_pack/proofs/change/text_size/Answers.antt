@@ -13,4 +13,4 @@ returns-then-not-contains c =
 pub returns : goal.returns
 returns c =
     let none = ap not c.contains.ensures.value ∙ none_zero c.args.value.now in
-    record { is = text_none _ (sym none ∙ ap not c.if-not-contains.false); most = omega arith }
+    record { is = text_none _ (sym none ∙ ap not c.if-not-contains.false); most = tt }

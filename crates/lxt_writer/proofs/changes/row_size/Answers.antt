@@ -8,7 +8,7 @@ use borrow.Author.Rules.{rules}
 use Rattle.lxt_writer.proofs.changes.row_size.Goals as goal
 
 pub returns-then-facilities-f : goal.returns-then-facilities-f
-returns-then-facilities-f c = row_outside _ _ _ _ _ c.if-facilities-f.true
+returns-then-facilities-f c = row_outside _ _ _ c.if-facilities-f.true
 
 pub overflow_add-end : goal.overflow_add-end
 overflow_add-end c =
@@ -18,7 +18,7 @@ overflow_add-end c =
     omega arith
 
 pub returns-then-values-end : goal.returns-then-values-end
-returns-then-values-end c = row_past _ _ _ _ _ c.if-values-end.true
+returns-then-values-end c = row_past _ _ _ c.if-values-end.true
 
 pub overflow_cast-delta : goal.overflow_cast-delta
 overflow_cast-delta c = omega (arith, c.requires.1.below (get_or c.args.row 0 0), c.requires.1.most)
