@@ -15,7 +15,6 @@ use Rattle.lxt_format.specs.Judge.{fault_from, clean_from}
 use Rattle.lxt_format.specs.declared.Kind.{Kind}
 use Rattle.lxt_format.specs.declared.Kind.TheVariants.{Bits, Integer, Real, Text}
 use Rattle.lxt_format.specs.declared.Facts.{Facts}
-use Rattle.lxt_tables.specs.Stage.{Geometry}
 use Rattle.lxt_tables.proofs.FacilityLaws.{width_fits}
 use Rattle.lxt_changes.specs.Faults.{symbolic, Setting}
 use Rattle.lxt_chains.specs.Reading.{Ready, facility_fault, facility_clean}
@@ -48,9 +47,6 @@ module _ (s : List ℕ) (c : Chains) (w : Ready s c) (f : ℕ) (below : f < c.fa
   read_as facts = signal c.from c.end facts.kind facts.width
 
   module _ (plain : is_alias s f ≡ false) where
-    pub facts_ask : (Geometry s c.geometry c.facilities × (f < c.facilities)) × ((geometry_allowed s f ≡ true) × (is_alias s f ≡ false))
-    facts_ask = ((w.geometry, below), (facility_allowed_lem, plain))
-
     module _ (facts : Facts) (e : facts ≡ own_facts s f) where
       pub setting : Setting s c.end c.zero facts.kind facts.width
       setting =

@@ -9,17 +9,16 @@ use lib.ListN.{length, get_or, set, take, replicate, length-set, length-replicat
 use lib.Seq.{get_or-set_same, get_or-set_other, length-take-le}
 use Rattle.lxt_format.specs.Limits.{widest_facility}
 use Rattle.lxt_format.specs.BasicsLaws.{on_zero}
-use Rattle.lxt_format.specs.Geometry.{is_alias, msb_of, lsb_of, flags_of, kind_of_flags, width_between, facts_by, own_facts, geometry_allowed}
+use Rattle.lxt_format.specs.Geometry.{is_alias, msb_of, lsb_of, flags_of, kind_of_flags, width_between, facts_by, own_facts}
 use Rattle.lxt_format.specs.Judge.{signal_of, fault_from}
 use Rattle.lxt_format.proofs.ChangesLaws.{faults_none}
 use Rattle.lxt_format.specs.declared.Kind.{Kind}
 use Rattle.lxt_format.specs.declared.Kind.TheVariants.{Bits, Integer, Real, Text}
 use Rattle.lxt_format.specs.declared.Facts.{Facts}
-use Rattle.lxt_tables.specs.Stage.{Geometry}
 use Rattle.lxt_chains.specs.Reading.{Ready}
 use Rattle.lxt_chains.specs.Windows.{Vacant}
 use Rattle.lxt_chains.specs.Groups.{has, width_as, group_signal, bits_width, kind_number, GroupFault, Faulty, Decides, Member, Groups, Room, Alone, Single, Roots, ChainFault}
-use Rattle.lxt_chains.proofs.ChainLaws.{facts_ask, narrow}
+use Rattle.lxt_chains.proofs.ChainLaws.{narrow}
 use Rattle.lxt_chains.proofs.GroupLawsFaults.{width_some, none_faulty}
 use Rattle.lxt_chains.specs.declared.chains.Chains.{Chains}
 
@@ -111,9 +110,6 @@ alone_none s f o widths kinds z = record {
 module _ (s : List ℕ) (c : Chains) (w : Ready s c) (f : ℕ) (below-n : f < c.facilities) (o : ℕ) (some : o ≡ 0 → ⊥) (root : 0 < o → is_alias s f ≡ false) where
   plain : is_alias s f ≡ false
   plain = root (omega arith)
-
-  pub alone_asks : (Geometry s c.geometry c.facilities × (f < c.facilities)) × ((geometry_allowed s f ≡ true) × (is_alias s f ≡ false))
-  alone_asks = facts_ask s c w f below-n plain
 
   module _ (facts : Facts) (e : facts ≡ own_facts s f) where
     pub alone_narrow : facts.width ≤ widest_facility

@@ -8,7 +8,7 @@ ghost use Rattle.lxt_chains.specs.Reading.{Ready, facility_fault, facility_clean
 
 use lxt_changes::fault;
 use lxt_format::Refusal;
-use lxt_tables::geometry;
+use lxt_tables::geometry::{self, GeometryTable};
 
 // What the chains of a file are read with: n, C, T, one past the last zero before T, and where the
 // geometry and the sync table start.
@@ -22,13 +22,24 @@ pub struct Chains {
     pub sync: usize,
 }
 
+impl Chains {
+    // The geometry of the file that these are read with.
+    pub fn geometry(self, file: &[u8]) -> GeometryTable<'_>
+        requires { Ready file.now self }
+        ensures same_file { result.file.now ≡ file.now }
+        ensures place { (result.at ≡ self.geometry) × (result.count ≡ self.facilities) }
+    {
+        GeometryTable::new(file, self.geometry, self.facilities)
+    }
+}
+
 // The fault of the chain that starts at `o`, read with the kind and width of the root `f`, or whether its padding
 // is 0.
 fn fault_from(file: &[u8], c: Chains, f: u32, o: u32) -> Result<bool, Refusal>
     requires { Ready file.now c × ((f < c.facilities) × (is_alias file.now f ≡ false)) }
     ensures { says result ≡ answer (fault_from file.now f o) (clean_from file.now f o) }
 {
-    let facts = geometry::own_facts(file, c.geometry, c.facilities, f);
+    let facts = c.geometry(file).own_facts(f);
     fault::first_fault(
         file,
         c.from,
@@ -45,7 +56,7 @@ pub fn facility_fault(file: &[u8], c: Chains, f: u32) -> Result<bool, Refusal>
     requires { Ready file.now c × (f < c.facilities) }
     ensures { says result ≡ answer (facility_fault file.now f) (facility_clean file.now f) }
 {
-    if geometry::is_alias(file, c.geometry, c.facilities, f) {
+    if c.geometry(file).is_alias(f) {
         return Ok(true);
     }
     let start = geometry::sync_of(file, c.sync, c.facilities, f);

@@ -15,7 +15,6 @@ use crate::window::WINDOW;
 use lxt_changes::symbols::Window;
 use lxt_changes::{delta, keep, symbols};
 use lxt_format::{Kind, Summary};
-use lxt_tables::geometry;
 
 // As many groups as there are facilities in any file.
 pub const MOST: usize = Summary::MOST_FACILITIES as usize;
@@ -265,7 +264,7 @@ fn put_group(file: &[u8], c: Chains, widths: &mut [u16], kinds: &mut [u8], f: us
     if o == 0 {
         return;
     }
-    let facts = geometry::own_facts(file, c.geometry, c.facilities, f as u32);
+    let facts = c.geometry(file).own_facts(f as u32);
     widths[f] = bits_width(facts.kind, facts.width);
     kinds[f] = kind_number(facts.kind);
 }

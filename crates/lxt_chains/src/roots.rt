@@ -12,7 +12,7 @@ fn root_offset(file: &[u8], c: Chains, f: u32) -> u32
     requires { Ready file.now c × (f < c.facilities) }
     ensures { result ≡ root_offset file.now f }
 {
-    if geometry::is_alias(file, c.geometry, c.facilities, f) {
+    if c.geometry(file).is_alias(f) {
         return 0;
     }
     geometry::sync_of(file, c.sync, c.facilities, f)

@@ -19,7 +19,7 @@ use Rattle.lxt_format.specs.Questions.{facility_refusal, written}
 use Rattle.lxt_format.specs.declared.Facts.{Facts}
 use Rattle.lxt_format.specs.declared.Kind.{Kind}
 use Rattle.lxt_format.specs.declared.Kind.TheVariants.{Bits, Integer, Real, Text}
-use Rattle.lxt_tables.specs.Stage.{Geometry, tables_of}
+use Rattle.lxt_tables.specs.Stage.{tables_of}
 use Rattle.lxt_tables.specs.Asked.{Sync}
 use Rattle.lxt_tables.specs.declared.Tables.{Tables}
 use Rattle.lxt_tables.proofs.TablesLaws.{Known, tables_known, entry_allowed, root_in, root_plain, width_most}
@@ -71,10 +71,10 @@ module _ (s : List ℕ) (t : Tables) (file_fine : file_refusal s ≡ 0) (e : t �
 
   -- what the facts of its root ask
   pub facts_ask : (root : ℕ) → root ≡ root_of s f
-      → (Geometry s t.geometry t.facilities × (root < t.facilities)) × ((geometry_allowed s root ≡ true) × (is_alias s root ≡ false))
+      → (root < t.facilities) × ((geometry_allowed s root ≡ true) × (is_alias s root ≡ false))
   facts_ask root er =
       let k = tables_of_lem in
-      ((k.geometry_at, rw (er, k.facilities) root_below), (rw er (entry_allowed s k.passed (root_of s f) root_below), rw er root_no_alias))
+      (rw (er, k.facilities) root_below, (rw er (entry_allowed s k.passed (root_of s f) root_below), rw er root_no_alias))
 
   pub width_small : (facts_of s f).width ≤ widest_facility
   unfolding facts_of

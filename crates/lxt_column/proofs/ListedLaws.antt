@@ -35,6 +35,9 @@ module _ {s : List ℕ} {t : Tables} {asked roots : List ℕ} (w : Listed s t as
       let each = total_most (λ f. (facts_of s f).width) widest_facility asked (λ i below. width_small s t w.0.accepted w.0.tables (get_or asked i 0) (below_at s t asked w.0 i below)) in
       omega (arith, w.0.short)
 
+  pub geometry_asks : Geometry s t.geometry t.facilities
+  geometry_asks = (tables_known s t w.0.tables w.0.accepted).geometry_at
+
   module _ {i : ℕ} (below : i < length asked) where
     abbrev number : ℕ
     number = get_or asked i 0
@@ -52,7 +55,7 @@ module _ {s : List ℕ} {t : Tables} {asked roots : List ℕ} (w : Listed s t as
     pub root_is : get_or roots number 0 ≡ root_of s number
     root_is = w.1.roots_are refl number inside
 
-    pub facts_asked_lem : (Geometry s t.geometry t.facilities × (get_or roots number 0 < t.facilities))
+    pub facts_asked_lem : (get_or roots number 0 < t.facilities)
         × ((geometry_allowed s (get_or roots number 0) ≡ true) × (is_alias s (get_or roots number 0) ≡ false))
     facts_asked_lem = facts_ask s t w.0.accepted w.0.tables number (below_at s t asked w.0 i below) (get_or roots number 0) root_is
 

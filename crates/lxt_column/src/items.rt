@@ -129,6 +129,7 @@ pub fn put_all(
     ensures bits_after { bits.new ≡ onto (column_bits file.now time facilities.now) bits.old }
     ensures records_after { records.new ≡ onto (column_records file.now time lent 0 facilities.now) records.old }
 {
+    let geometry = t.geometry(file);
     let table = TimeTable::new(file, t.times as usize, t.time_count, t.wide_times);
     let end = table.limit_at(time);
     let mut start: usize = 0;
@@ -136,7 +137,7 @@ pub fn put_all(
     for (i, &facility) in facilities.iter().enumerate() {
         let root = roots[facility as usize];
         let found = latest_of(file, t, end, root, known);
-        let facts = geometry::own_facts(file, t.geometry as usize, t.facilities, root);
+        let facts = geometry.own_facts(root);
         records[i] = item_at(
             file,
             t,

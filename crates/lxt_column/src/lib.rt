@@ -68,6 +68,6 @@ pub fn column(
         return Err(Refusal::Facility);
     }
     let mut roots = [aliases::UNKNOWN; aliases::ROOM];
-    aliases::put_roots(file, t.geometry as usize, t.facilities, &mut roots);
+    t.geometry(file).put_roots(&mut roots);
     by_roots(file, t, &roots, time, facilities, text.len(), bits, records)
 }

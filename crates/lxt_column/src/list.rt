@@ -5,7 +5,7 @@ ghost use Rattle.lxt_format.specs.Questions.{widths_of};
 ghost use Rattle.lxt_tables.specs.Asked.{Resolved};
 ghost use Rattle.lxt_column.specs.Listing.{Listed};
 
-use lxt_tables::{Tables, geometry};
+use lxt_tables::Tables;
 
 // Whether all numbers are below `n`.
 pub fn all_below(facilities: &[u32], n: u32) -> bool
@@ -19,10 +19,11 @@ pub fn widths(file: &[u8], t: Tables, roots: &[u32], facilities: &[u32]) -> usiz
     requires { Listed file.now t facilities.now × Resolved file.now t.facilities true roots.now }
     ensures { result ≡ widths_of file.now facilities.now }
 {
+    let geometry = t.geometry(file);
     let mut sum: usize = 0;
     for &facility in facilities {
         let root = roots[facility as usize];
-        let facts = geometry::own_facts(file, t.geometry as usize, t.facilities, root);
+        let facts = geometry.own_facts(root);
         sum += facts.width as usize;
     }
     sum

@@ -101,8 +101,8 @@ module _ (s : List ℕ) (t : Tables) (w : Opened s t) (f : ℕ) (l : f < t.facil
   pub geometry_there : Geometry s t.geometry t.facilities
   geometry_there = (opened_known s t w).geometry_at
 
-  pub own_asks : (is_alias s f ≡ false) → (Geometry s t.geometry t.facilities × (f < t.facilities)) × ((geometry_allowed s f ≡ true) × (is_alias s f ≡ false))
-  own_asks e = let k = opened_known s t w in ((k.geometry_at, l), (entry_allowed s k.passed f inside, e))
+  pub own_asks : (is_alias s f ≡ false) → (f < t.facilities) × ((geometry_allowed s f ≡ true) × (is_alias s f ≡ false))
+  own_asks e = let k = opened_known s t w in (l, (entry_allowed s k.passed f inside, e))
 
 -- a name is at most 1,023 bytes long
 pub name_short : (s : List ℕ) (f : ℕ) (name : List ℕ) → name ≡ name_of s f → length name ≤ 1023

@@ -25,7 +25,6 @@ use Rattle.lxt_format.specs.declared.Value.TheVariants as ofValue
 use Rattle.lxt_format.specs.declared.Kind.{Kind}
 use Rattle.lxt_format.specs.declared.Kind.TheVariants.{Bits, Integer, Real, Text}
 use Rattle.lxt_format.specs.declared.Facts.{Facts}
-use Rattle.lxt_tables.specs.Stage.{Geometry}
 use Rattle.lxt_tables.specs.declared.Tables.{Tables}
 use Rattle.lxt_tables.proofs.TablesLaws.{width_most, has_real_lem, real_order}
 use Rattle.lxt_values.specs.Reals.{order_places}
@@ -69,7 +68,7 @@ change_line_lem s t w f o x e = rw (time_is s t w o x e)
 -- ---- what reading the value asks
 
 module _ (s : List ℕ) (t : Tables) (w : Opened s t) (f : ℕ) (l : f < t.facilities) (o : ℕ) (a : Allowed s (pair_of f o)) where
-  pub facts_asks : (Geometry s t.geometry t.facilities × (f < t.facilities)) × ((geometry_allowed s f ≡ true) × (is_alias s f ≡ false))
+  pub facts_asks : (f < t.facilities) × ((geometry_allowed s f ≡ true) × (is_alias s f ≡ false))
   facts_asks = own_asks s t w f l a.root
 
   module _ (x : Facts) (e : x ≡ own_facts s f) where

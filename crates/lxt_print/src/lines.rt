@@ -14,7 +14,7 @@ ghost use Rattle.lxt_print.specs.Placing.{Opened, NamesAt, Put, facility_head, f
 use crate::text::{put_bytes, put_decimal, put_hex};
 use lxt_format::{Kind, Refusal, Value};
 use lxt_sections::times::BIAS;
-use lxt_tables::{Tables, aliases, geometry};
+use lxt_tables::Tables;
 use lxt_values::names::{NamesLeft, next};
 use lxt_values::value::read;
 
@@ -75,13 +75,12 @@ fn put_shape(file: &[u8], t: Tables, f: u32, out: &mut [u8], at: usize) -> usize
     requires { Opened file.now t × ((f < t.facilities) × (at + 28 ≤ length out.old)) }
     ensures { Put out.old at (facility_end file.now f) result out.new × (result ≤ at + 28) }
 {
-    let geometry = t.geometry as usize;
-    let n = t.facilities;
-    if geometry::is_alias(file, geometry, n, f) {
+    let geometry = t.geometry(file);
+    if geometry.is_alias(f) {
         let p = put_bytes(out, at, b"alias ");
-        return put_decimal(out, p, u64::from(aliases::root(file, geometry, n, f)));
+        return put_decimal(out, p, u64::from(geometry.root(f)));
     }
-    let facts = geometry::own_facts(file, geometry, n, f);
+    let facts = geometry.own_facts(f);
     let q = put_kind(out, at, facts.kind);
     let r = put_bytes(out, q, b" ");
     put_decimal(out, r, u64::from(facts.width))
@@ -152,7 +151,7 @@ fn put_value(file: &[u8], t: Tables, f: u32, o: u32, out: &mut [u8], at: usize) 
     requires { Opened file.now t × ((f < t.facilities) × (Allowed file.now (pair_of f o) × (at + (2 * length file.now + widest_facility) ≤ length out.old))) }
     ensures { Put out.old at (value_text file.now (content_of file.now f o)) result out.new × (result ≤ at + (2 * length file.now + widest_facility)) }
 {
-    let facts = geometry::own_facts(file, t.geometry as usize, t.facilities, f);
+    let facts = t.geometry(file).own_facts(f);
     let value = read(
         file,
         t.end,

@@ -80,14 +80,14 @@ module _ (s : List ℕ) (f : ℕ) (a : Asked) (h : given a ≡ asked s f) where
   pub all_known : Known s a.tables
   all_known = tables_known s a.tables tables_are (file_of s f nothing_refused)
 
-  pub root_asks : (Geometry s a.tables.geometry a.tables.facilities × (a.root < a.tables.facilities)) × ((geometry_allowed s a.root ≡ true) × (is_alias s a.root ≡ false))
+  pub root_asks : (a.root < a.tables.facilities) × ((geometry_allowed s a.root ≡ true) × (is_alias s a.root ≡ false))
   root_asks =
       let k = all_known in
       let p = k.passed in
       let low = below_of s f nothing_refused in
       let below = root_in s p f low in
       let e = root_is in
-      ((k.geometry_at, rw (e, k.facilities) below), (rw e (entry_allowed s p (root_of s f) below), rw e (root_plain s p f low)))
+      (rw (e, k.facilities) below, (rw e (entry_allowed s p (root_of s f) below), rw e (root_plain s p f low)))
 
   pub facts_given : (facts : Facts) → facts ≡ own_facts s a.root → given facts ≡ facts_asked s f
   unfolding facts_asked facts_of

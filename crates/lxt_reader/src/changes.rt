@@ -26,7 +26,7 @@ pub fn find_chain(file: &[u8], facility: u32) -> Result<Chain, Refusal>
 {
     let a = ask(file, facility)?;
     let t = a.tables;
-    let facts = geometry::own_facts(file, t.geometry as usize, t.facilities, a.root);
+    let facts = t.geometry(file).own_facts(a.root);
     let start = geometry::sync_of(file, t.sync as usize, t.facilities, a.root);
     Ok(Chain {
         start,

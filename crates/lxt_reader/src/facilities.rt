@@ -6,7 +6,7 @@ ghost use Rattle.lxt_reader.specs.Asking.{asked};
 
 use lxt_chains::whole::judged;
 use lxt_format::{Facts, Refusal};
-use lxt_tables::{Tables, aliases, geometry};
+use lxt_tables::Tables;
 
 // A facility's root, and the tables of the file.
 #[derive(Clone, Copy)]
@@ -23,7 +23,7 @@ pub fn ask(file: &[u8], facility: u32) -> Result<Asked, Refusal>
     if tables.facilities <= facility {
         return Err(Refusal::Facility);
     }
-    let root = aliases::root(file, tables.geometry as usize, tables.facilities, facility);
+    let root = tables.geometry(file).root(facility);
     Ok(Asked { root, tables })
 }
 
@@ -32,9 +32,7 @@ pub fn facts_of(file: &[u8], facility: u32) -> Result<Facts, Refusal>
     ensures { says result ≡ facts_asked file.now facility }
 {
     let a = ask(file, facility)?;
-    let t = a.tables;
-    let facts = geometry::own_facts(file, t.geometry as usize, t.facilities, a.root);
-    Ok(facts)
+    Ok(a.tables.geometry(file).own_facts(a.root))
 }
 
 // The root of a facility; a root's root is itself.

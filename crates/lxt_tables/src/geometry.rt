@@ -5,46 +5,132 @@ ghost use Rattle.lxt_format.specs.Geometry.{rows_of, msb_of, lsb_of, flags_of, i
 ghost use Rattle.lxt_tables.specs.Stage.{Geometry};
 ghost use Rattle.lxt_tables.specs.Asked.{Sync};
 
+use crate::Tables;
 use lxt_format::{Facts, Kind};
 use lxt_sections::be32;
 
 // The bytes of an entry: rows, msb, lsb and flags, 4 each.
 const ENTRY: usize = 16;
 
-pub fn rows(file: &[u8], geometry: usize, n: u32, f: u32) -> u32
-    requires { Geometry file.now geometry n × (f < n) }
-    ensures { result ≡ rows_of file.now f }
-{
-    be32(file, geometry + ENTRY * (f as usize))
+// The geometry of a file: where it starts and how many entries it has.
+#[derive(Clone, Copy)]
+pub struct GeometryTable<'f> {
+    pub file: &'f [u8],
+    pub at: usize,
+    pub count: u32,
+    pub ghost there: { Geometry file.now at count },
 }
 
-fn msb(file: &[u8], geometry: usize, n: u32, f: u32) -> u32
-    requires { Geometry file.now geometry n × (f < n) }
-    ensures { result ≡ msb_of file.now f }
-{
-    be32(file, geometry + ENTRY * (f as usize) + 4)
+impl<'f> GeometryTable<'f> {
+    pub fn new(file: &'f [u8], at: usize, count: u32) -> GeometryTable<'f>
+        requires { Geometry file.now at count }
+        ensures same_file { result.file.now ≡ file.now }
+        ensures place { (result.at ≡ at) × (result.count ≡ count) }
+    {
+        GeometryTable { file, at, count }
+    }
+
+    pub fn rows(self, f: u32) -> u32
+        requires { f < self.count }
+        ensures { result ≡ rows_of self.entry.file.now f }
+    {
+        be32(self.file, self.at + ENTRY * (f as usize))
+    }
+
+    fn msb(self, f: u32) -> u32
+        requires { f < self.count }
+        ensures { result ≡ msb_of self.entry.file.now f }
+    {
+        be32(self.file, self.at + ENTRY * (f as usize) + 4)
+    }
+
+    fn lsb(self, f: u32) -> u32
+        requires { f < self.count }
+        ensures { result ≡ lsb_of self.entry.file.now f }
+    {
+        be32(self.file, self.at + ENTRY * (f as usize) + 8)
+    }
+
+    pub fn flags(self, f: u32) -> u32
+        requires { f < self.count }
+        ensures { result ≡ flags_of self.entry.file.now f }
+    {
+        be32(self.file, self.at + ENTRY * (f as usize) + 12)
+    }
+
+    // Flag bit 3.
+    pub fn is_alias(self, f: u32) -> bool
+        requires { f < self.count }
+        ensures { result ≡ is_alias self.entry.file.now f }
+    {
+        self.flags(f) / 8 % 2 == 1
+    }
+
+    // The entry of a facility keeps the rules of refusal 11.
+    pub fn allowed(self, f: u32) -> bool
+        requires { f < self.count }
+        ensures { result ≡ geometry_allowed self.entry.file.now f }
+    {
+        let word = self.flags(f);
+        let width = width_between(self.msb(f), self.lsb(f));
+        self.is_alias(f)
+            | ((self.rows(f) == 0)
+                & flags_allowed(word)
+                & ((word != 0) | Facts::width_is_allowed(width)))
+    }
+
+    // Refusal 11.
+    pub fn all_allowed(self) -> bool
+        ensures { result ≡ geometries_allowed self.entry.file.now }
+    {
+        for f in 0..self.count {
+            if !self.allowed(f) {
+                return false;
+            }
+        }
+        true
+    }
+
+    // The facts that a root's own entry gives.
+    pub fn own_facts(self, f: u32) -> Facts
+        requires inside { f < self.count }
+        requires f_value { geometry_allowed self.file.now f ≡ true }
+        requires f_value_2 { is_alias self.file.now f ≡ false }
+        ensures { result ≡ own_facts self.entry.file.now f }
+    {
+        match kind_of(self.flags(f)) {
+            Kind::Bits => bits_facts(self.msb(f), self.lsb(f)),
+            Kind::Integer => Facts {
+                width: 32,
+                msb: 31,
+                lsb: 0,
+                kind: Kind::Integer,
+            },
+            Kind::Real => Facts {
+                width: 0,
+                msb: 0,
+                lsb: 0,
+                kind: Kind::Real,
+            },
+            Kind::Text => Facts {
+                width: 0,
+                msb: 0,
+                lsb: 0,
+                kind: Kind::Text,
+            },
+        }
+    }
 }
 
-fn lsb(file: &[u8], geometry: usize, n: u32, f: u32) -> u32
-    requires { Geometry file.now geometry n × (f < n) }
-    ensures { result ≡ lsb_of file.now f }
-{
-    be32(file, geometry + ENTRY * (f as usize) + 8)
-}
-
-pub fn flags(file: &[u8], geometry: usize, n: u32, f: u32) -> u32
-    requires { Geometry file.now geometry n × (f < n) }
-    ensures { result ≡ flags_of file.now f }
-{
-    be32(file, geometry + ENTRY * (f as usize) + 12)
-}
-
-// Flag bit 3.
-pub fn is_alias(file: &[u8], geometry: usize, n: u32, f: u32) -> bool
-    requires { Geometry file.now geometry n × (f < n) }
-    ensures { result ≡ is_alias file.now f }
-{
-    flags(file, geometry, n, f) / 8 % 2 == 1
+impl Tables {
+    // The geometry of the file that these are the tables of.
+    pub fn geometry(self, file: &[u8]) -> GeometryTable<'_>
+        requires { Geometry file.now self.geometry self.facilities }
+        ensures same_file { result.file.now ≡ file.now }
+        ensures place { (result.at ≡ self.geometry) × (result.count ≡ self.facilities) }
+    {
+        GeometryTable::new(file, self.geometry as usize, self.facilities)
+    }
 }
 
 // Where the facility's chain starts.
@@ -80,32 +166,6 @@ fn kind_of(flags: u32) -> Kind
     }
 }
 
-// The entry of a facility keeps the rules of refusal 11.
-pub fn geometry_allowed(file: &[u8], geometry: usize, n: u32, f: u32) -> bool
-    requires { Geometry file.now geometry n × (f < n) }
-    ensures { result ≡ geometry_allowed file.now f }
-{
-    let word = flags(file, geometry, n, f);
-    let width = width_between(msb(file, geometry, n, f), lsb(file, geometry, n, f));
-    is_alias(file, geometry, n, f)
-        | ((rows(file, geometry, n, f) == 0)
-            & flags_allowed(word)
-            & ((word != 0) | Facts::width_is_allowed(width)))
-}
-
-// Refusal 11.
-pub fn geometries_allowed(file: &[u8], geometry: usize, n: u32) -> bool
-    requires { Geometry file.now geometry n }
-    ensures { result ≡ geometries_allowed file.now }
-{
-    for f in 0..n {
-        if !geometry_allowed(file, geometry, n, f) {
-            return false;
-        }
-    }
-    true
-}
-
 // The facts of bits that are not too wide.
 fn bits_facts(msb: u32, lsb: u32) -> Facts
     requires { width_between msb lsb ≤ widest_facility }
@@ -116,35 +176,5 @@ fn bits_facts(msb: u32, lsb: u32) -> Facts
         msb: msb.cast_signed(),
         lsb: lsb.cast_signed(),
         kind: Kind::Bits,
-    }
-}
-
-// The facts that a root's own entry gives.
-pub fn own_facts(file: &[u8], geometry: usize, n: u32, f: u32) -> Facts
-    requires geometry { Geometry file.now geometry n × (f < n) }
-    requires f_value { geometry_allowed file.now f ≡ true }
-    requires f_value_2 { is_alias file.now f ≡ false }
-    ensures { result ≡ own_facts file.now f }
-{
-    match kind_of(flags(file, geometry, n, f)) {
-        Kind::Bits => bits_facts(msb(file, geometry, n, f), lsb(file, geometry, n, f)),
-        Kind::Integer => Facts {
-            width: 32,
-            msb: 31,
-            lsb: 0,
-            kind: Kind::Integer,
-        },
-        Kind::Real => Facts {
-            width: 0,
-            msb: 0,
-            lsb: 0,
-            kind: Kind::Real,
-        },
-        Kind::Text => Facts {
-            width: 0,
-            msb: 0,
-            lsb: 0,
-            kind: Kind::Text,
-        },
     }
 }

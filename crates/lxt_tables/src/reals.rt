@@ -3,21 +3,21 @@ ghost use Rattle.std.specs.Prelude.{◌≡◌, map, ◌+◌, ◌≤◌, ltb, len
 ghost use Rattle.std.specs.List.{list_all};
 ghost use Rattle.lxt_format.specs.Basics.{range, all};
 ghost use Rattle.lxt_format.specs.Reals.{place_of, test_pattern, has_real};
-ghost use Rattle.lxt_tables.specs.Stage.{Geometry};
 
-use crate::geometry::flags;
+use crate::geometry::GeometryTable;
 
-// A root is of kind real. An alias has flag bit 3, so its flags are not 2.
-pub fn has_real(file: &[u8], geometry: usize, n: u32) -> bool
-    requires { Geometry file.now geometry n }
-    ensures { result ≡ has_real file.now }
-{
-    for f in 0..n {
-        if flags(file, geometry, n, f) == 2 {
-            return true;
+impl GeometryTable<'_> {
+    // A root is of kind real. An alias has flag bit 3, so its flags are not 2.
+    pub fn has_real(self) -> bool
+        ensures { result ≡ has_real self.entry.file.now }
+    {
+        for f in 0..self.count {
+            if self.flags(f) == 2 {
+                return true;
+            }
         }
+        false
     }
-    false
 }
 
 // Where `b` stands among the eight bytes from `at` on, or 8.

@@ -5,10 +5,9 @@ ghost use Rattle.lxt_format.specs.Bytes.{numbers_at};
 ghost use Rattle.lxt_format.specs.Sections.{time_bytes};
 ghost use Rattle.lxt_format.specs.Geometry.{roots_of, sync_of};
 ghost use Rattle.lxt_format.specs.Times.{table_allowed, times_allowed};
-ghost use Rattle.lxt_tables.specs.Stage.{Geometry};
 ghost use Rattle.lxt_tables.specs.Asked.{Sync, Times, Begins, Placed, rises_to};
 
-use crate::geometry::{is_alias, sync_of};
+use crate::geometry::{GeometryTable, sync_of};
 use lxt_sections::times::{BIAS, biased, last_at, positions_at, steps_at, time_at};
 use lxt_sections::{Sections, be32};
 
@@ -74,17 +73,19 @@ fn table_allowed(file: &[u8], times: usize, m: u32, wide: bool, end: usize) -> b
         & sums_allowed(file, steps_at(times, m, wide), wide, m, h.time, h.high)
 }
 
-// A root's sync entry is not 0.
-fn any_sync(file: &[u8], geometry: usize, sync: usize, n: u32) -> bool
-    requires { Geometry file.now geometry n × Sync file.now sync n }
-    ensures { result ≡ any (λ f. not (eqb (sync_of file.now f) 0)) (roots_of file.now) }
-{
-    for f in 0..n {
-        if !is_alias(file, geometry, n, f) & (sync_of(file, sync, n, f) != 0) {
-            return true;
+impl GeometryTable<'_> {
+    // A root's sync entry is not 0.
+    fn any_sync(self, sync: usize) -> bool
+        requires { Sync self.file.now sync self.count }
+        ensures { result ≡ any (λ f. not (eqb (sync_of self.entry.file.now f) 0)) (roots_of self.entry.file.now) }
+    {
+        for f in 0..self.count {
+            if !self.is_alias(f) & (sync_of(self.file, sync, self.count, f) != 0) {
+                return true;
+            }
         }
+        false
     }
-    false
 }
 
 // Refusal 13.
@@ -93,7 +94,8 @@ pub fn times_allowed(file: &[u8], p: Sections) -> bool
     ensures { result ≡ times_allowed file.now }
 {
     if p.time_count == 0 {
-        return !any_sync(file, p.geometry as usize, p.sync as usize, p.facilities);
+        let geometry = GeometryTable::new(file, p.geometry as usize, p.facilities);
+        return !geometry.any_sync(p.sync as usize);
     }
     table_allowed(file, p.times as usize, p.time_count, p.wide_times, p.end)
 }

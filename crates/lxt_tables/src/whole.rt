@@ -9,10 +9,9 @@ ghost use Rattle.lxt_tables.specs.Asked.{Placed};
 ghost use Rattle.lxt_tables.specs.Steps.{middle_refusal};
 
 use crate::Tables;
-use crate::aliases::aliases_allowed;
-use crate::geometry::geometries_allowed;
+use crate::geometry::GeometryTable;
 use crate::names::name_table_end;
-use crate::reals::{byte_order, has_real, is_reordering};
+use crate::reals::{byte_order, is_reordering};
 use crate::single::{initial, timescale};
 use crate::times::times_allowed;
 use lxt_format::Refusal;
@@ -23,11 +22,11 @@ fn middle(file: &[u8], p: Sections) -> Result<(), Refusal>
     requires { Placed file.now p }
     ensures { says result ≡ answer (middle_refusal file.now) tt }
 {
-    let geometry = p.geometry as usize;
-    if !geometries_allowed(file, geometry, p.facilities) {
+    let geometry = GeometryTable::new(file, p.geometry as usize, p.facilities);
+    if !geometry.all_allowed() {
         return Err(Refusal::Geometry);
     }
-    if !aliases_allowed(file, geometry, p.facilities) {
+    if !geometry.aliases_allowed() {
         return Err(Refusal::Aliases);
     }
     if !times_allowed(file, p) {
@@ -42,7 +41,8 @@ fn real_order(file: &[u8], p: Sections) -> Result<[u8; 8], Refusal>
     requires { Placed file.now p }
     ensures { says result ≡ answer (14 unless real_test_allowed file.now) (if has_real file.now then byte_order file.now else replicate 8 0) }
 {
-    if !has_real(file, p.geometry as usize, p.facilities) {
+    let geometry = GeometryTable::new(file, p.geometry as usize, p.facilities);
+    if !geometry.has_real() {
         return Ok([0u8; 8]);
     }
     if !lxt_sections::lies(p.end, p.real_test, 8) {

@@ -43,7 +43,7 @@ fn put_asked(file: &[u8], t: Tables, asked: &[u8], offsets: &mut [u32])
     ensures { offsets.new ≡ onto (start_offsets file.now asked.now) offsets.old }
 {
     let mut roots = [aliases::UNKNOWN; aliases::ROOM];
-    aliases::put_roots(file, t.geometry as usize, t.facilities, &mut roots);
+    t.geometry(file).put_roots(&mut roots);
     put_by_roots(file, t, &roots, asked, offsets);
 }
 

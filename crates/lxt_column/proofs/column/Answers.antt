@@ -21,14 +21,19 @@ returns-then-not-all_below c =
     let all = wrong_number _ _ _ _ _ _ (file_fine _ _ c.in_ok-t.ensures) _ c.length_is_allowed.ensures c.if-not-length_is_allowed.false _ (tables_are _ _ c.in_ok-t.ensures) _ c.all_below.ensures c.if-not-all_below.true in
     record { result_value = all.0; bits_after = all.1.0; records_after = all.1.1 }
 
+pub geometry-requires : goal.geometry-requires
+geometry-requires c = (roots_ask _ _ (file_fine _ _ c.in_ok-t.ensures) (tables_are _ _ c.in_ok-t.ensures)).0
+
 pub put_roots-requires : goal.put_roots-requires
-put_roots-requires c = roots_ask _ _ (file_fine _ _ c.in_ok-t.ensures) (tables_are _ _ c.in_ok-t.ensures)
+put_roots-requires c =
+    rw (c.geometry.ensures.same_file, c.geometry.ensures.place.1)
+    (roots_ask _ _ (file_fine _ _ c.in_ok-t.ensures) (tables_are _ _ c.in_ok-t.ensures)).1
 
 pub by_roots-requires : goal.by_roots-requires
 by_roots-requires c =
     let fine = file_fine _ _ c.in_ok-t.ensures in (
       list_known _ _ fine _ (tables_are _ _ c.in_ok-t.ensures) _ c.length_is_allowed.ensures c.if-not-length_is_allowed.false _ c.all_below.ensures c.if-not-all_below.false,
-      roots_known _ _ fine (tables_are _ _ c.in_ok-t.ensures) _ _ c.put_roots.ensures,
+      roots_known _ _ fine (tables_are _ _ c.in_ok-t.ensures) _ _ (rw (c.geometry.ensures.same_file, c.geometry.ensures.place.1) at c.put_roots.ensures),
     )
 
 pub returns : goal.returns

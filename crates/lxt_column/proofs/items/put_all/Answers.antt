@@ -1,9 +1,12 @@
 use native.Mathlib.Omega.{arith}
 use Rattle.lxt_column.proofs.ItemLaws.{times_ask}
 use Rattle.lxt_column.proofs.MemoryLaws.{nothing_known}
-use Rattle.lxt_column.proofs.ListedLaws.{widths_most, number_small, root_inside, facts_asked_lem, rooted, listed_found}
+use Rattle.lxt_column.proofs.ListedLaws.{geometry_asks, widths_most, number_small, root_inside, facts_asked_lem, rooted, listed_found}
 use Rattle.lxt_column.proofs.PutLaws.{put_begun, put_ended, record_fits, item_asks, start_fits, sum_fits, put_turn, put_at}
 use Rattle.lxt_column.proofs.items.put_all.Goals as goal
+
+pub geometry-geometry-requires : goal.geometry-geometry-requires
+geometry-geometry-requires c = geometry_asks c.requires.listed
 
 pub new-table-requires : goal.new-table-requires
 new-table-requires c = times_ask _ _ c.requires.listed.0.accepted c.requires.listed.0.tables
@@ -26,11 +29,12 @@ latest_of-found-requires c = (rooted c.requires.listed c.loop-i-test.true, c.loo
 pub own_facts-facts-requires : goal.own_facts-facts-requires
 own_facts-facts-requires c =
     let asks = facts_asked_lem c.requires.listed c.loop-i-test.true in
-    record { geometry = asks.0; f_value = asks.1.0; f_value_2 = asks.1.1 }
+    let g = c.geometry-geometry.ensures in
+    record { inside = rw g.place.1 asks.0; f_value = rw g.same_file asks.1.0; f_value_2 = rw g.same_file asks.1.1 }
 
 pub item_at-requires : goal.item_at-requires
 item_at-requires c =
-    let found = listed_found c.requires.listed c.loop-i-test.true (rw c.new-table.ensures.same_file at c.limit_at-end.ensures) c.latest_of-found.ensures.offset_value c.own_facts-facts.ensures in
+    let found = listed_found c.requires.listed c.loop-i-test.true (rw c.new-table.ensures.same_file at c.limit_at-end.ensures) c.latest_of-found.ensures.offset_value (rw c.geometry-geometry.ensures.same_file at c.own_facts-facts.ensures) in
     item_asks c.loop-i.invariant c.loop-i-test.true c.requires.facilities_in_bounds found
 
 pub offset_bounds-records-i : goal.offset_bounds-records-i
@@ -41,17 +45,17 @@ bounds-records-i c = record_fits c.loop-i.invariant c.loop-i-test.true c.require
 
 pub overflow_add-start : goal.overflow_add-start
 overflow_add-start c =
-    let found = listed_found c.requires.listed c.loop-i-test.true (rw c.new-table.ensures.same_file at c.limit_at-end.ensures) c.latest_of-found.ensures.offset_value c.own_facts-facts.ensures in
+    let found = listed_found c.requires.listed c.loop-i-test.true (rw c.new-table.ensures.same_file at c.limit_at-end.ensures) c.latest_of-found.ensures.offset_value (rw c.geometry-geometry.ensures.same_file at c.own_facts-facts.ensures) in
     record { fits = omega (arith, start_fits c.loop-i.invariant c.loop-i-test.true c.requires.facilities_in_bounds found, widths_most c.requires.listed) }
 
 pub overflow_add-visited : goal.overflow_add-visited
 overflow_add-visited c =
-    let found = listed_found c.requires.listed c.loop-i-test.true (rw c.new-table.ensures.same_file at c.limit_at-end.ensures) c.latest_of-found.ensures.offset_value c.own_facts-facts.ensures in
+    let found = listed_found c.requires.listed c.loop-i-test.true (rw c.new-table.ensures.same_file at c.limit_at-end.ensures) c.latest_of-found.ensures.offset_value (rw c.geometry-geometry.ensures.same_file at c.own_facts-facts.ensures) in
     record { fits = sum_fits c.loop-i.invariant c.loop-i-test.true c.requires.facilities_in_bounds found c.requires.listed.0.short }
 
 pub loop-i-preserved : goal.loop-i-preserved
 loop-i-preserved c =
-    let found = listed_found c.requires.listed c.loop-i-test.true (rw c.new-table.ensures.same_file at c.limit_at-end.ensures) c.latest_of-found.ensures.offset_value c.own_facts-facts.ensures in
+    let found = listed_found c.requires.listed c.loop-i-test.true (rw c.new-table.ensures.same_file at c.limit_at-end.ensures) c.latest_of-found.ensures.offset_value (rw c.geometry-geometry.ensures.same_file at c.own_facts-facts.ensures) in
     put_turn c.loop-i.invariant c.loop-i-test.true c.requires.facilities_in_bounds found
     c.item_at.ensures.value c.item_at.ensures.bits_after c.latest_of-found.ensures.remembered c.latest_of-found.auto.known
 

@@ -1,8 +1,11 @@
 use native.Mathlib.Omega.{arith}
 use Rattle.lxt_format.specs.Questions.{widths_of}
 use Rattle.lxt_column.proofs.ListLaws.{add_begun, add_ended, add_turn, add_within}
-use Rattle.lxt_column.proofs.ListedLaws.{widths_most, number_small, root_inside, facts_asked_lem, width_is}
+use Rattle.lxt_column.proofs.ListedLaws.{geometry_asks, widths_most, number_small, root_inside, facts_asked_lem, width_is}
 use Rattle.lxt_column.proofs.list.widths.Goals as goal
+
+pub geometry-geometry-requires : goal.geometry-geometry-requires
+geometry-geometry-requires c = geometry_asks c.requires
 
 pub loop-facility-init : goal.loop-facility-init
 loop-facility-init c = add_begun
@@ -19,16 +22,17 @@ bounds-roots-facility c = root_inside c.requires c.loop-facility-test.true
 pub own_facts-facts-requires : goal.own_facts-facts-requires
 own_facts-facts-requires c =
     let asks = facts_asked_lem c.requires c.loop-facility-test.true in
-    record { geometry = asks.0; f_value = asks.1.0; f_value_2 = asks.1.1 }
+    let g = c.geometry-geometry.ensures in
+    record { inside = rw g.place.1 asks.0; f_value = rw g.same_file asks.1.0; f_value_2 = rw g.same_file asks.1.1 }
 
 pub overflow_add-sum : goal.overflow_add-sum
 overflow_add-sum c =
-    let width = width_is c.requires c.loop-facility-test.true c.own_facts-facts.ensures in
+    let width = width_is c.requires c.loop-facility-test.true (rw c.geometry-geometry.ensures.same_file at c.own_facts-facts.ensures) in
     record { fits = omega (arith, add_within c.loop-facility.invariant c.loop-facility-test.true _ width, widths_most c.requires) }
 
 pub loop-facility-preserved : goal.loop-facility-preserved
 loop-facility-preserved c =
-    let width = width_is c.requires c.loop-facility-test.true c.own_facts-facts.ensures in
+    let width = width_is c.requires c.loop-facility-test.true (rw c.geometry-geometry.ensures.same_file at c.own_facts-facts.ensures) in
     add_turn c.loop-facility.invariant c.loop-facility-test.true _ width
 
 pub returns : goal.returns

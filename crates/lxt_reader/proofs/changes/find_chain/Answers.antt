@@ -2,19 +2,23 @@ use mathlib.Core.Path.{◌∙◌}
 use Rattle.lxt_format.proofs.AnswerLaws.{says_passed}
 use Rattle.lxt_reader.specs.Changing.{chain_at}
 use Rattle.lxt_reader.proofs.ChangeWays.{sync_asks, chain_found}
-use Rattle.lxt_reader.proofs.AskWays.{asked_refused, root_asks}
+use Rattle.lxt_reader.proofs.AskWays.{asked_refused, all_known, root_asks}
 use Rattle.lxt_reader.proofs.changes.find_chain.Goals as goal
 
 pub returns-in_err-a : goal.returns-in_err-a
 returns-in_err-a c = says_passed c.from_residual.result _ c.from_residual.ensures.1 ∙ asked_refused _ _ (chain_at c.args.file.now c.args.facility) _ c.in_err-a.ensures
 
+pub geometry-requires : goal.geometry-requires
+geometry-requires c = (all_known _ _ _ c.in_ok-a.ensures).geometry_at
+
 pub own_facts-facts-requires : goal.own_facts-facts-requires
 own_facts-facts-requires c =
     let all = root_asks _ _ _ c.in_ok-a.ensures in
-    record { geometry = all.0; f_value = all.1.0; f_value_2 = all.1.1 }
+    let g = c.geometry.ensures in
+    record { inside = rw g.place.1 all.0; f_value = rw g.same_file all.1.0; f_value_2 = rw g.same_file all.1.1 }
 
 pub sync_of-start-requires : goal.sync_of-start-requires
 sync_of-start-requires c = sync_asks _ _ _ c.in_ok-a.ensures
 
 pub returns : goal.returns
-returns c = chain_found _ _ _ c.in_ok-a.ensures _ c.own_facts-facts.ensures _ c.sync_of-start.ensures
+returns c = chain_found _ _ _ c.in_ok-a.ensures _ (rw c.geometry.ensures.same_file at c.own_facts-facts.ensures) _ c.sync_of-start.ensures

@@ -10,8 +10,8 @@ returns-in_err-tables c = says_passed c.from_residual.result _ c.from_residual.e
 pub returns-then-tables-facility : goal.returns-then-tables-facility
 returns-then-tables-facility c = not_below _ _ _ c.in_ok-tables.ensures c.if-tables-facility.true
 
-pub root-root-requires : goal.root-root-requires
-root-root-requires c = geometry_there _ c.args.facility _ c.in_ok-tables.ensures
+pub geometry-requires : goal.geometry-requires
+geometry-requires c = geometry_there _ c.args.facility _ c.in_ok-tables.ensures
 
 pub returns : goal.returns
-returns c = asked_fine _ _ _ c.in_ok-tables.ensures c.if-tables-facility.false _ c.root-root.ensures
+returns c = asked_fine _ _ _ c.in_ok-tables.ensures c.if-tables-facility.false _ (rw c.geometry.ensures.same_file at c.root-root.ensures)

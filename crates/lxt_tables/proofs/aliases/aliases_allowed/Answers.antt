@@ -1,9 +1,0 @@
-use borrow.Author.Rules.{rules}
-use Rattle.lxt_tables.proofs.AliasLaws.{own_roots, none_known}
-use Rattle.lxt_tables.proofs.aliases.aliases_allowed.Goals as goal
-
-pub returns-then-none_is_alias : goal.returns-then-none_is_alias
-returns-then-none_is_alias c = search own_roots
-
-pub put_roots-requires : goal.put_roots-requires
-put_roots-requires c = (search rules, search none_known)

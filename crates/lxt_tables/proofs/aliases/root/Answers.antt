@@ -1,5 +1,0 @@
-use Rattle.lxt_tables.proofs.AliasLaws.{none_right}
-use Rattle.lxt_tables.proofs.aliases.root.Goals as goal
-
-pub root_by-requires : goal.root_by-requires
-root_by-requires c = (c.requires, none_right _ _ _ c.requires)

@@ -1,0 +1,5 @@
+use Rattle.lxt_tables.proofs.FacilityLaws.{msb_is}
+use Rattle.lxt_tables.proofs.geometry.GeometryTable.msb.Goals as goal
+
+pub returns : goal.returns
+returns c = search msb_is

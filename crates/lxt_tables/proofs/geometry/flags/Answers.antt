@@ -1,5 +1,0 @@
-use Rattle.lxt_tables.proofs.FacilityLaws.{flags_is}
-use Rattle.lxt_tables.proofs.geometry.flags.Goals as goal
-
-pub returns : goal.returns
-returns c = search flags_is

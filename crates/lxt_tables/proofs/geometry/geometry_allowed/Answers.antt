@@ -1,5 +1,0 @@
-use Rattle.lxt_tables.proofs.FacilityLaws.{entry_is}
-use Rattle.lxt_tables.proofs.geometry.geometry_allowed.Goals as goal
-
-pub returns : goal.returns
-returns c = search entry_is

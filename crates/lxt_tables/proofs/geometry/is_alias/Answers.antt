@@ -1,5 +1,0 @@
-use Rattle.lxt_tables.proofs.FacilityLaws.{alias_is}
-use Rattle.lxt_tables.proofs.geometry.is_alias.Goals as goal
-
-pub returns : goal.returns
-returns c = search alias_is

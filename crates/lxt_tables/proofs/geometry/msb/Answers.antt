@@ -1,5 +1,0 @@
-use Rattle.lxt_tables.proofs.FacilityLaws.{msb_is}
-use Rattle.lxt_tables.proofs.geometry.msb.Goals as goal
-
-pub returns : goal.returns
-returns c = search msb_is

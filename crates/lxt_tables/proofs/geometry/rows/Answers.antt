@@ -1,5 +1,0 @@
-use Rattle.lxt_tables.proofs.FacilityLaws.{rows_is}
-use Rattle.lxt_tables.proofs.geometry.rows.Goals as goal
-
-pub returns : goal.returns
-returns c = search rows_is
