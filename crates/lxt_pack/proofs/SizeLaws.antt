@@ -22,7 +22,7 @@ use Rattle.lxt_written.specs.Writing.{no_zero, is_symbol, is_bit, value_allowed}
 use Rattle.lxt_written.specs.CommandLaws.{length_change, length_packed, integer_codes, command_one, command_0, bit_symbol, no_data}
 use Rattle.lxt_pack.specs.Symbols.{all_below, same_all}
 use Rattle.lxt_pack.proofs.SymbolLaws.{bit_is, symbols_codes, below_more, chosen_same, chosen_0, chosen_1, chosen_2}
-use Rattle.lxt_pack.specs.Change.{WidthFor, size_for, change_size, AtMost, Sizes, Scales}
+use Rattle.lxt_pack.specs.Change.{WidthFor, size_for, change_size, Sizes, Scales}
 
 -- ---- deltas
 

@@ -1,5 +1,5 @@
 -- What the functions over a value's symbols answer and ask.
-use Rattle.std.specs.Prelude.{ℕ, ◌+◌, ◌-◌, ◌≤◌, ◌<◌, ◌^◌, ◌≡◌, Bool, List, length, get_or, ltb, eqb}
+use Rattle.std.specs.Prelude.{ℕ, ◌+◌, ◌≤◌, ◌<◌, ◌^◌, ◌≡◌, Bool, List, length, get_or, ltb, eqb}
 use Rattle.lxt_format.specs.Basics.{all}
 use Rattle.lxt_format.specs.Changes.{packed_size}
 use Rattle.lxt_format.specs.UnpackLaws.{Size}

@@ -1,5 +1,5 @@
 // One change: how many bytes it takes, and its bytes.
-ghost use Rattle.std.specs.Prelude.{◌≡◌, ◌+◌, ◌*◌, ◌-◌, ◌≤◌, ◌<◌, length, ltb, if◌then◌else◌};
+ghost use Rattle.std.specs.Prelude.{◌≡◌, ◌+◌, ◌≤◌, ◌<◌, length, ltb, if◌then◌else◌};
 ghost use Rattle.lxt_format.specs.Buffers.{placed};
 ghost use Rattle.lxt_format.specs.Changes.{symbol_size, packed_size};
 ghost use Rattle.lxt_format.specs.declared.Kind.TheVariants.{Bits, Integer, Real, Text};

@@ -1,5 +1,5 @@
 // Bytes put into the lent buffer. Each function puts its bytes at a place and leaves the others.
-ghost use Rattle.std.specs.Prelude.{◌≡◌, ◌+◌, ◌-◌, ◌≤◌, ◌<◌, length};
+ghost use Rattle.std.specs.Prelude.{◌≡◌, ◌+◌, ◌≤◌, length};
 ghost use Rattle.lxt_format.specs.Buffers.{placed};
 ghost use Rattle.lxt_written.specs.WrittenChanges.{big_endian};
 

@@ -1,5 +1,5 @@
 // The symbols of a value: their codes, the command that holds them, and their packing.
-ghost use Rattle.std.specs.Prelude.{◌≡◌, true, map, ◌+◌, ◌-◌, ◌≤◌, ◌<◌, ◌/◌, ◌^◌, length, get_or, ltb, if◌then◌else◌};
+ghost use Rattle.std.specs.Prelude.{◌≡◌, true, map, ◌+◌, ◌≤◌, ◌<◌, ◌/◌, ◌^◌, length, get_or, ltb, if◌then◌else◌};
 ghost use Rattle.std.proofs.Math.Seq.{slice};
 ghost use Rattle.lxt_format.specs.Basics.{all};
 ghost use Rattle.lxt_format.specs.Buffers.{placed};

@@ -1,4 +1,3 @@
-use mathlib.Core.Path.{sym}
 use native.Mathlib.Omega.{arith}
 use Rattle.lxt_pack.proofs.SizeLaws.{change_refused, change_given}
 use Rattle.lxt_pack.proofs.change.size_of.Goals as goal
