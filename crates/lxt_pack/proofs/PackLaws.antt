@@ -1,4 +1,5 @@
 -- Laws of symbols that are packed into bytes.
+use Rattle.std.proofs.lemmas.List.{get_or_past, get_or-map, get_or-drop, take_all}
 use mir.Val.{bool_byte}
 use Prim.Native.Nat.{ℕ, zero, suc, ◌+◌, ◌*◌, ◌-◌, ◌/◌, ◌%◌, ◌^◌, ◌≤◌, ◌<◌}
 use native.Mathlib.Nat.{add-zero, add-mul, mul_assoc, mul_comm, mul-suc, mul-zero, mul-le-mul, le_refl}
@@ -7,10 +8,10 @@ use native.Mathlib.Numerals.{add-one}
 use mathlib.Core.Path.{◌≡◌, refl, sym, ap, ◌∙◌}
 use mathlib.Core.Bool.{true, ◌&&◌, ◌||◌}
 use mathlib.Core.List.{List, [], ◌∷◌, map}
-use lib.ListN.{length, get_or, set, take, drop, length-set, length-take, drop_of_length-le}
+use lib.ListN.{length, get_or, set, take, drop, length-set, length-take, length-drop, length-map, drop_of_length-le}
 use lib.Pow.{pow_pos, pow-add}
 use native.Mathlib.Decide.{dec_le}
-use lib.Seq.{slice, slice-cons, slice_empty, drop-drop, take-length}
+use lib.Seq.{slice, slice-cons, slice_empty, drop-cons, drop-drop, take-length}
 use Rattle.lxt_format.specs.Buffers.{placed, placed_none, stored_one, placed_next}
 use lib.Dec.{leb, ltb, eqb, lit<, lit≤}
 use borrow.Author.Tests.{eqb-true, leb-true, ltb-true}
@@ -242,6 +243,25 @@ whole_of v b at h =
       known = λ i l. h.known (at + i) (omega arith) (omega arith);
     }
 
+-- the symbols from p on, as they are lent on
+abbrev pub lent_from : List ℕ → ℕ → List ℕ
+lent_from v p = take (length v - p) (drop p v)
+
+lent_is : (v : List ℕ) (p : ℕ) → lent_from v p ≡ drop p v
+lent_is v p = take_all (length v - p) (drop p v) (let n = length-drop p v in omega arith)
+
+held_from : (v : List ℕ) (b p : ℕ) → Holding v b p (length v) → Holding (lent_from v p) b 0 (length (lent_from v p))
+held_from v b p h =
+    let n = length-drop p v in
+    rw (lent_is v p)
+    record {
+      size = h.size;
+      upto = omega arith;
+      within = omega arith;
+      codes = λ i l m. rw (get_or-drop p v i 0) (h.codes (p + i) (omega arith) (omega arith));
+      known = λ i l m. rw (get_or-drop p v i 0) (h.known (p + i) (omega arith) (omega arith));
+    }
+
 -- ---- a part of the codes
 
 slice_none : (i end : ℕ) (v : List ℕ) → end ≤ i → slice i end v ≡ []
@@ -255,40 +275,43 @@ codes_next v i end k =
       | no h ↦ rw (next v i end (omega arith) k)
     ]
 
--- the first
-pub digit_is : (v : List ℕ) (at k end r : ℕ) → at ≤ end → end ≤ length v → Symbols v at end → k < end - at → Coded (get_or v (at + k) 0) 9 r
-    → r ≡ get_or (map code_of (slice (at + k) end v)) 0 0
-digit_is v at k end r l i s h e = rw (next v (at + k) end (omega arith) i) (e (s (at + k) (omega arith) (omega arith)))
+-- those from k on
+dropped : (v : List ℕ) (k : ℕ) → k < length v → drop k v ≡ get_or v k 0 ∷ drop (k + 1) v
+dropped v k h = let e : k + 1 ≡ suc k = omega arith in rw e (drop-cons v k 0 h)
 
-pub digit_none : (v : List ℕ) (at k end : ℕ) → end - at ≤ k → 0 ≡ get_or (map code_of (slice (at + k) end v)) 0 0
-digit_none v at k end h = rw (slice_none (at + k) end v (omega arith))
+codes_dropped : (v : List ℕ) (k : ℕ) → drop 1 (map code_of (drop k v)) ≡ map code_of (drop (k + 1) v)
+codes_dropped v k =
+    elim (dec_le (length v) k) [
+      | yes h ↦ rw (drop_of_length-le v {i = k} h, drop_of_length-le v {i = k + 1} (omega arith))
+      | no h ↦ rw (dropped v k (omega arith))
+    ]
+
+-- the first of them
+pub digit_is : (v : List ℕ) (k r : ℕ) → Symbols v 0 (length v) → k < length v → Coded (get_or v k 0) 9 r → r ≡ get_or (map code_of (drop k v)) 0 0
+digit_is v k r s h e = rw (dropped v k h) (e (s k (omega arith) h))
+
+pub digit_none : (v : List ℕ) (k : ℕ) → length v ≤ k → 0 ≡ get_or (map code_of (drop k v)) 0 0
+digit_none v k h = rw (drop_of_length-le v {i = k} h)
 
 -- each code has b bits
-codes_from : (v : List ℕ) (b start end : ℕ) → Holding v b start end → (i j : ℕ) → start ≤ i → get_or (map code_of (slice i end v)) j 0 < 2 ^ b
-codes_from v b start end h i zero l =
-    elim (dec_le end i) [
-      | yes k ↦ rw (slice_none i end v k) (pow_pos b)
-      | no k ↦ rw (next v i end (omega arith) h.within) (h.codes i l (omega arith))
-    ]
-codes_from v b start end h i (suc j) l =
-    let ih : get_or (map code_of (slice (i + 1) end v)) j 0 < 2 ^ b = codes_from v b start end h (i + 1) j (omega arith) in
-    elim (dec_le end i) [
-      | yes k ↦ rw (slice_none i end v k) (pow_pos b)
-      | no k ↦ rw (next v i end (omega arith) h.within) ih
+codes_from : (v : List ℕ) (b : ℕ) → Holding v b 0 (length v) → (j : ℕ) → get_or (map code_of v) j 0 < 2 ^ b
+codes_from v b h j =
+    elim (dec_le (length v) j) [
+      | yes k ↦ rw (get_or_past (map code_of v) j 0 (let n = length-map v code_of in omega arith)) (pow_pos b)
+      | no k ↦ rw (get_or-map code_of v j 0 0 (omega arith)) (h.codes j (omega arith) (omega arith))
     ]
 
 -- ---- the last byte, code by code
 
 -- k codes are in the sum; with the others it gives the byte
-pub record Summing (v : List ℕ) (at end b sum k : ℕ) : Type 0 where
-  pub left : sum * 2 ^ (b * (8 / b - k)) + packed_codes b (8 / b - k) (map code_of (slice (at + k) end v)) ≡ packed_codes b (8 / b) (map code_of (slice at end v))
+pub record Summing (v : List ℕ) (b sum k : ℕ) : Type 0 where
+  pub left : sum * 2 ^ (b * (8 / b - k)) + packed_codes b (8 / b - k) (map code_of (drop k v)) ≡ packed_codes b (8 / b) (map code_of v)
   pub upto : k ≤ 8 / b
 
-pub sum_begun : (v : List ℕ) (at end b : ℕ) → Summing v at end b 0 0
-sum_begun v at end b =
-    let e : at + 0 ≡ at = add-zero at in
+pub sum_begun : (v : List ℕ) (b : ℕ) → Summing v b 0 0
+sum_begun v b =
     let f : 8 / b - 0 ≡ 8 / b = omega arith in
-    record { left = rw (e, f) (omega arith); upto = omega arith }
+    record { left = rw f (omega arith); upto = omega arith }
 
 -- the numbers of b bits that fill a byte
 eight_bits : (b : ℕ) → Size b → b * (8 / b) ≡ 8
@@ -302,40 +325,39 @@ shift sum base d P R =
     let f : sum * base * P ≡ sum * (P * base) = mul_assoc sum base P ∙ ap (λ x. sum * x) (mul_comm base P) in
     omega arith
 
-module _ (v : List ℕ) (at end b sum k : ℕ) (w : Summing v at end b sum k) where
+module _ (v : List ℕ) (b sum k : ℕ) (w : Summing v b sum k) where
   -- the sum is below 256
-  pub sum_small : Holding v b at end → sum < 256
+  pub sum_small : Holding v b 0 (length v) → sum < 256
   sum_small h =
-      let total : packed_codes b (8 / b) (map code_of (slice at end v)) < 2 ^ (b * (8 / b)) =
-      codes_small b (8 / b) (map code_of (slice at end v)) (λ i. codes_from v b at end h at i (omega arith)) in
-      let total' : packed_codes b (8 / b) (map code_of (slice at end v)) < 256 = rw (eight_bits b h.size) at total in
+      let total : packed_codes b (8 / b) (map code_of v) < 2 ^ (b * (8 / b)) =
+      codes_small b (8 / b) (map code_of v) (codes_from v b h) in
+      let total' : packed_codes b (8 / b) (map code_of v) < 256 = rw (eight_bits b h.size) at total in
       let one : 1 ≤ 2 ^ (b * (8 / b - k)) = pow_pos (b * (8 / b - k)) in
       let m : sum * 1 ≤ sum * 2 ^ (b * (8 / b - k)) = mul-le-mul (le_refl sum) one in
       omega (arith, w.left)
 
-  pub sum_turn : end ≤ length v → k < 8 / b → (base d : ℕ) → base ≡ 2 ^ b → d ≡ get_or (map code_of (slice (at + k) end v)) 0 0
-      → Summing v at end b (sum * base + d) (k + 1)
+  pub sum_turn : k < 8 / b → (base d : ℕ) → base ≡ 2 ^ b → d ≡ get_or (map code_of (drop k v)) 0 0
+      → Summing v b (sum * base + d) (k + 1)
   unfolding packed_codes
-  sum_turn inside h base d eb ed =
+  sum_turn h base d eb ed =
       let j : ℕ = 8 / b - (k + 1) in
       let e : 8 / b - k ≡ suc j = omega arith in
       let power : 2 ^ (b * suc j) ≡ 2 ^ (b * j) * base = rw (mul-suc b j, eb) (pow-add 2 (b * j) b) in
-      let a : at + (k + 1) ≡ at + k + 1 = omega arith in
-      let rest : sum * 2 ^ (b * suc j) + packed_codes b (suc j) (map code_of (slice (at + k) end v)) ≡ packed_codes b (8 / b) (map code_of (slice at end v)) = rw e at w.left in
+      let rest : sum * 2 ^ (b * suc j) + packed_codes b (suc j) (map code_of (drop k v)) ≡ packed_codes b (8 / b) (map code_of v) = rw e at w.left in
       record {
         left =
-            rw (a, ← codes_next v (at + k) end inside) (shift sum base d (2 ^ (b * j)) (packed_codes b j (drop 1 (map code_of (slice (at + k) end v))))
+            rw (← codes_dropped v k) (shift sum base d (2 ^ (b * j)) (packed_codes b j (drop 1 (map code_of (drop k v))))
             ∙ rw (← power, ed) rest);
         upto = omega arith;
       }
 
-  pub sum_ended : 8 / b ≤ k → sum ≡ packed_codes b (8 / b) (map code_of (slice at end v))
+  pub sum_ended : 8 / b ≤ k → sum ≡ packed_codes b (8 / b) (map code_of v)
   unfolding packed_codes
   sum_ended h =
       let e : 8 / b - k ≡ 0 = omega arith in
-      let l : sum * 2 ^ (b * 0) + 0 ≡ packed_codes b (8 / b) (map code_of (slice at end v)) = rw e at w.left in
+      let l : sum * 2 ^ (b * 0) + 0 ≡ packed_codes b (8 / b) (map code_of v) = rw e at w.left in
       let z : b * 0 ≡ 0 = mul-zero b in
-      let l' : sum * 2 ^ 0 + 0 ≡ packed_codes b (8 / b) (map code_of (slice at end v)) = rw z at l in
+      let l' : sum * 2 ^ 0 + 0 ≡ packed_codes b (8 / b) (map code_of v) = rw z at l in
       omega arith
 
 -- ---- all bytes
@@ -540,19 +562,19 @@ module _ (v : List ℕ) (b : ℕ) (out : List ℕ) (at : ℕ) (k : Packing v b o
       unfolding count
       few = let r = count_rest b k.holding.size (length v) in omega (arith, r.0, r.1)
 
-      pub count_rest_holds : Holding v b (8 / b * (length v / (8 / b))) (length v)
+      pub count_rest_holds : Holding (lent_from v (8 / b * (length v / (8 / b)))) b 0 (length (lent_from v (8 / b * (length v / (8 / b)))))
       unfolding count
-      count_rest_holds = pack_rest v b out at k out' (8 / b * count) (at + count) all_packed
+      count_rest_holds = held_from v b (8 / b * count) (pack_rest v b out at k out' (8 / b * count) (at + count) all_packed)
 
       pub count_rest_room : 8 / b * (length v / (8 / b)) < length v → at + length v / (8 / b) < length out'
       unfolding count
       count_rest_room h = pack_room_last v b out at k out' (8 / b * count) (at + count) all_packed few h
 
       pub count_last : 8 / b * (length v / (8 / b)) < length v → (x : ℕ)
-          → x ≡ packed_codes b (8 / b) (map code_of (slice (8 / b * (length v / (8 / b))) (length v) v))
+          → x ≡ packed_codes b (8 / b) (map code_of (lent_from v (8 / b * (length v / (8 / b)))))
           → set out' (at + length v / (8 / b)) x ≡ placed out at (bytes_of v b)
       unfolding count
-      count_last h x e = pack_last v b out at k out' (8 / b * count) (at + count) all_packed few h x e
+      count_last h x e = pack_last v b out at k out' (8 / b * count) (at + count) all_packed few h x (rw (take-length v) (rw (lent_is v (8 / b * count)) at e))
 
       pub count_ended : length v ≤ 8 / b * (length v / (8 / b)) → out' ≡ placed out at (bytes_of v b)
       unfolding count

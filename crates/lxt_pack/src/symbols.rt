@@ -1,5 +1,5 @@
 // The symbols of a value: their codes, the command that holds them, and their packing.
-ghost use Rattle.std.specs.Prelude.{◌≡◌, true, map, ◌+◌, ◌≤◌, ◌<◌, ◌/◌, ◌^◌, length, get_or, ltb, if◌then◌else◌};
+ghost use Rattle.std.specs.Prelude.{◌≡◌, true, drop, map, ◌+◌, ◌≤◌, ◌<◌, ◌/◌, ◌^◌, length, get_or, ltb, if◌then◌else◌};
 ghost use Rattle.std.proofs.Math.Seq.{slice};
 ghost use Rattle.lxt_format.specs.Basics.{all};
 ghost use Rattle.lxt_format.specs.Buffers.{placed};
@@ -183,26 +183,26 @@ fn two(values: &[u8], at: usize) -> u8
     code_of(values[at]) * 16 + code_of(values[at + 1])
 }
 
-// The code k places behind `at`, and 0 from `end` on.
-fn digit(values: &[u8], at: usize, k: usize, end: usize) -> u8
-    requires { (at ≤ end) × (end ≤ length values.now) × Symbols values.now at end }
-    ensures { result ≡ get_or (map code_of (slice (at + k) end values.now)) 0 0 }
+// The code k, and 0 past the last.
+fn digit(value: &[u8], k: usize) -> u8
+    requires { Symbols value.now 0 (length value.now) }
+    ensures { result ≡ get_or (map code_of (drop k value.now)) 0 0 }
 {
-    if k < end - at {
-        return code_of(values[at + k]);
+    if k < value.len() {
+        return code_of(value[k]);
     }
     0
 }
 
-// The last byte, which the codes up to `end` do not fill; the unused bits are 0.
-fn rest(values: &[u8], at: usize, end: usize, b: usize) -> u8
-    requires { Holding values.now b at end }
-    ensures { result ≡ packed_codes b (8 / b) (map code_of (slice at end values.now)) }
+// The last byte, which these codes do not fill; the unused bits are 0.
+fn rest(value: &[u8], b: usize) -> u8
+    requires { Holding value.now b 0 (length value.now) }
+    ensures { result ≡ packed_codes b (8 / b) (map code_of value.now) }
 {
     let base = 1 << b;
     let mut sum: u32 = 0;
     for k in 0..8 / b {
-        sum = sum * base + u32::from(digit(values, at, k, end));
+        sum = sum * base + u32::from(digit(value, k));
     }
     sum as u8
 }
@@ -231,7 +231,7 @@ fn pack_codes<const B: usize>(value: &[u8], out: &mut [u8], at: usize)
     }
     let p = places * count;
     if p < value.len() {
-        out[at + count] = rest(value, p, value.len(), B);
+        out[at + count] = rest(&value[p..], B);
     }
 }
 

@@ -1,12 +1,13 @@
 -- Laws of one row of the table of changes: whether it is allowed, its bytes, and the table of the newest changes after it.
 use Rattle.std.specs.Prelude.{Option, Some, None}
 use Rattle.std.proofs.lemmas.Option.{none-some, cond_some}
-use Prim.Native.Nat.{ℕ, zero, suc, ◌+◌, ◌-◌, ◌≤◌, ◌<◌}
+use Rattle.std.proofs.lemmas.List.{get_or-map}
+use Prim.Native.Nat.{ℕ, ◌+◌, ◌-◌, ◌≤◌, ◌<◌}
 use native.Mathlib.Omega.{arith}
 use native.Mathlib.Decide.{ℕ_discrete}
 use mathlib.Core.Path.{◌≡◌, refl, sym, ◌∙◌}
 use mathlib.Core.Bool.{true, false, true≢false}
-use mathlib.Core.List.{List, [], ◌∷◌, map}
+use mathlib.Core.List.{List, [], ◌∷◌}
 use lib.ListN.{length, get_or, set, take, drop, length-map, length-set}
 use lib.Seq.{length-slice, get_or-set_same, get_or-set_other}
 use lib.Dec.{leb, ltb}
@@ -27,15 +28,9 @@ use Rattle.lxt_writer.specs.Changes.{nameless, Laying, row_allowed, row_bytes, R
 
 -- ---- the facility of a row
 
--- an element of a list that is made one by one
-map_at : {A : Type 0} {B : Type 0} (g : A → B) (d : A) (e : B) (xs : List A) (i : ℕ) → i < length xs → get_or (map g xs) i e ≡ g (get_or xs i d)
-map_at g d e [] i h = absurd (omega arith)
-map_at g d e (x ∷ xs) zero h = refl
-map_at g d e (x ∷ xs) (suc i) h = map_at g d e xs i (omega arith)
-
 -- facility f is the one of row f
 pub numbered_row : (rows : List (List ℕ)) (f : ℕ) → f < length rows → numbered (nameless rows) f ≡ facility_of [] (get_or rows f [])
-numbered_row rows f h = map_at (facility_of []) [] no_facility rows f h
+numbered_row rows f h = get_or-map (facility_of []) rows f [] no_facility h
 
 -- the width of a facility that is not too wide is one of its kind
 width_for : (kind : Kind) (msb lsb : ℕ) → (facts_by kind msb lsb).width ≤ widest_facility → WidthFor kind (facts_by kind msb lsb).width
