@@ -1,12 +1,12 @@
 -- Laws of the rows of the table of facilities: kinds and widths, and whether a row is allowed.
-use Prim.Native.Nat.{ℕ, ◌+◌, ◌≤◌, ◌<◌}
+use Prim.Native.Nat.{ℕ, ◌+◌, ◌-◌, ◌≤◌, ◌<◌}
 use native.Mathlib.Omega.{arith}
-use mathlib.Core.Path.{◌≡◌, ◌∙◌}
+use mathlib.Core.Path.{◌≡◌, ap, ◌∙◌}
 use mathlib.Core.Bool.{Bool, true, false, not, ◌&&◌}
 use mathlib.Core.List.{List}
 use Rattle.std.proofs.Common.{◌⊎◌, inl, inr}
-use lib.ListN.{length, get_or}
-use lib.Seq.{slice, length-slice}
+use lib.ListN.{length, get_or, take, drop}
+use lib.Seq.{length-slice}
 use lib.Dec.{leb}
 use borrow.Author.Tests.{le-leb, lt-leb, ne_eqb, not-true, not-false}
 use Rattle.lxt_format.specs.Limits.{longest_name, widest_facility}
@@ -15,6 +15,7 @@ use Rattle.lxt_format.specs.declared.Kind.{Kind}
 use Rattle.lxt_format.specs.declared.Kind.TheVariants.{Bits, Integer, Real, Text}
 use Rattle.lxt_written.specs.Input.{part, kind_of_code, facility_of, facility_row_allowed}
 use Rattle.lxt_written.specs.Writing.{no_zero, name_allowed, facts_for, facility_allowed}
+use Rattle.lxt_pack.proofs.PartLaws.{part_is}
 
 -- ---- the kind of a code
 
@@ -93,11 +94,13 @@ module _ (names row : List ℕ) where
       pub name_too_long : not short ≡ true → false ≡ row_allowed names row
       name_too_long h = rw (row_is, not-true short h)
 
-      module _ (fits : not short ≡ false) (none : Bool) (en : none ≡ no_zero (slice (get_or row 0 0) (get_or row 0 0 + get_or row 1 0) names)) where
+      module _ (fits : not short ≡ false) (none : Bool) (en : none ≡ no_zero (take (get_or row 0 0 + get_or row 1 0 - get_or row 0 0) (drop (get_or row 0 0) names))) where
         -- then it is the bytes of the name and the width
         none_is : row_allowed names row ≡ (none && leb (facts_for (facility_of names row)).width widest_facility)
         unfolding part
-        none_is = rw (row_is, not-false short fits, en)
+        none_is =
+            let lent = part_is names (get_or row 0 0) (get_or row 0 0 + get_or row 1 0) (omega arith) inside in
+            rw (row_is, not-false short fits, en ∙ ap no_zero lent)
 
         -- a byte of the name is 0
         pub name_has_zero : not none ≡ true → false ≡ row_allowed names row

@@ -57,7 +57,7 @@ pub fn allowed(names: &[u8], row: [u32; 5]) -> bool
     if !NameCursor::length_is_allowed(size) {
         return false;
     }
-    if !parts::no_zero(names, start, start + size) {
+    if !parts::no_zero(&names[start..start + size]) {
         return false;
     }
     let kind = kind_of(row[KIND]);
