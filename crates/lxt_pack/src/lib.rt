@@ -1,4 +1,4 @@
-// Bytes put into a lent buffer: numbers, parts of a pool, symbols, and a whole change.
+// Bytes put into a lent buffer: numbers, bytes, symbols, and a whole change.
 #![tactic(auto)]
 
 pub mod change;
