@@ -9,7 +9,11 @@ returns-then-bits-needed c =
     record { result_value = all.0; bits_after = all.1.0; records_after = all.1.1 }
 
 pub put_all-visited-requires : goal.put_all-visited-requires
-put_all-visited-requires c = record { listed = c.requires; facilities_in_bounds = room_there c.args.file.now c.args.time c.args.facilities.now c.args.lent c.args.bits.now c.args.records.now _ c.requires.0 _ c.widths-needed.ensures c.if-bits-needed.false c.if-records-facilities.false; forgotten = forgotten }
+put_all-visited-requires c =
+    let a = c.args in
+    let room = room_there a.file.now a.time a.facilities.now a.lent a.bits.now a.records.now _ c.requires.0 _ c.widths-needed.ensures
+    c.if-bits-needed.false c.if-records-facilities.false in
+    record { listed = c.requires; facilities_in_bounds = room; forgotten = forgotten }
 
 pub returns : goal.returns
 returns c =

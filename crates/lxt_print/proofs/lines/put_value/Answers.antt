@@ -27,7 +27,12 @@ pub returns-in-Bits : goal.returns-in-Bits
 returns-in-Bits c = value_bits _ _ c.requires.0 _ c.requires.1.0 _ c.requires.1.1.0 _ (rw c.geometry.ensures.same_file at c.own_facts-facts.ensures) _ _ c.requires.1.1.1 _ _ c.read-value.ensures.0 c.read-value.ensures.1 _ c.in-Bits.is
 
 pub returns-in-Real : goal.returns-in-Real
-returns-in-Real c = value_real _ _ c.requires.0 _ c.requires.1.0 _ c.requires.1.1.0 _ (rw c.geometry.ensures.same_file at c.own_facts-facts.ensures) _ _ c.requires.1.1.1 _ _ c.read-value.ensures.0 c.read-value.ensures.1 _ _ c.in-Real.is _ (c.to_be_bytes.ensures ∙ word_bytes _) _ _ c.put_hex.ensures.0 c.put_hex.ensures.1
+returns-in-Real c =
+    let pre = c.requires in
+    let facts = rw c.geometry.ensures.same_file at c.own_facts-facts.ensures in
+    let read = c.read-value.ensures in
+    let put = c.put_hex.ensures in
+    value_real _ _ pre.0 _ pre.1.0 _ pre.1.1.0 _ facts _ _ pre.1.1.1 _ _ read.0 read.1 _ _ c.in-Real.is _ (c.to_be_bytes.ensures ∙ word_bytes _) _ _ put.0 put.1
 
 pub returns-in-Text : goal.returns-in-Text
 returns-in-Text c = value_text_lem _ _ c.requires.0 _ c.requires.1.0 _ c.requires.1.1.0 _ (rw c.geometry.ensures.same_file at c.own_facts-facts.ensures) _ _ c.requires.1.1.1 _ _ c.read-value.ensures.0 c.read-value.ensures.1 _ _ c.in-Text.is _ _ c.put_hex-in-Text.ensures.0 c.put_hex-in-Text.ensures.1
