@@ -34,6 +34,14 @@ fn folder(name: &str) -> PathBuf {
     folder
 }
 
+/// Makes a file that can be run of another file. `install` writes it, not this process: what is open here for writing is open
+/// too in each process that another test starts, until that runs its program, and nobody can run such a file.
+fn runnable(from: &Path, to: &Path) {
+    let mut command = Command::new("install");
+    command.args(["-m", "755", "--"]).args([from, to]);
+    assert!(command.status().expect("install").success());
+}
+
 fn run(script: &Path, trace: &Path) -> Output {
     let mut command = Command::new(script);
     command.arg(trace).stdin(Stdio::null());
@@ -191,9 +199,10 @@ impl Copied {
         for part in ["crates/lxt_dump/src", "docs", "commands"] {
             fs::create_dir_all(root.join(part)).expect("a folder");
         }
-        for file in ["dump", "crates.txt", "docs/FORMAT.md"] {
+        for file in ["crates.txt", "docs/FORMAT.md"] {
             fs::copy(repository().join(file), root.join(file)).expect("a copy");
         }
+        runnable(&repository().join("dump"), &root.join("dump"));
         let copied = Copied { root };
         copied.write("crates/lxt_dump/src/main.rt", "");
         // Fails where another call is under way; takes a while; builds the program.
@@ -211,6 +220,11 @@ impl Copied {
         fs::write(self.root.join(name), text).expect("a file");
     }
 
+    fn script(&self, name: &str, text: &str) {
+        self.write("text", text);
+        runnable(&self.root.join("text"), &self.root.join(name));
+    }
+
     /// What `rt` does after writing down that it was called.
     fn command(&self, body: &str) {
         let calls = self.root.join("calls");
@@ -218,16 +232,12 @@ impl Copied {
             "#!/bin/sh\necho \"${{PWD##*/}} $*\" >> '{}'\n{body}\n",
             calls.display()
         );
-        self.write("commands/rt", &text);
-        let rt = self.root.join("commands/rt");
-        fs::set_permissions(rt, fs::Permissions::from_mode(0o755)).expect("a mode");
+        self.script("commands/rt", &text);
     }
 
     /// The program of the folder as a script, newer than the sources.
     fn program(&self, body: &str) {
-        self.write(PROGRAM, &format!("#!/bin/sh\n{body}\n"));
-        let program = self.root.join(PROGRAM);
-        fs::set_permissions(program, fs::Permissions::from_mode(0o755)).expect("a mode");
+        self.script(PROGRAM, &format!("#!/bin/sh\n{body}\n"));
     }
 
     fn run(&self, name: &str) -> Output {
@@ -245,9 +255,9 @@ impl Copied {
         calls.lines().count()
     }
 
-    /// Makes a file so many seconds older than now.
+    /// Makes a file so many seconds older than now. It may be one that is run, and is not opened for writing.
     fn age(&self, name: &str, seconds: u64) {
-        let file = File::options().append(true).open(self.root.join(name));
+        let file = File::open(self.root.join(name));
         let then = SystemTime::now() - Duration::from_secs(seconds);
         file.expect("a file").set_modified(then).expect("a time");
     }
