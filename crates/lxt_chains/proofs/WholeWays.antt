@@ -7,10 +7,11 @@ use mathlib.Core.List.{List, map}
 use lib.ListN.{length, get_or, get_or-eq_default}
 use native.Mathlib.Omega.{arith}
 use native.Mathlib.Decide.{dec_le, ℕ_discrete}
+use borrow.Author.Tests.{ne_eqb}
 use Rattle.std.specs.Prelude.{Some, None}
 use Rattle.std.proofs.lemmas.Option.{none-some, same_Some}
 use Rattle.lxt_format.specs.Basics.{◌unless◌, ◌or_else◌, Answer, given, refused, answer, range, first_fault}
-use Rattle.lxt_format.specs.BasicsLaws.{on_test, on_zero, stops, answer_refused, was_given, passed_on, same_refusal, fault_next, fault_here}
+use Rattle.lxt_format.specs.BasicsLaws.{on_test, on_zero, stops, answer_refused, was_given, was_refused, passed_on, same_refusal, fault_next, fault_here}
 use Rattle.lxt_format.specs.Sections.{facility_count, end_of}
 use Rattle.lxt_format.specs.Geometry.{is_alias, roots_of}
 use Rattle.lxt_format.proofs.ChangesLaws.{faults_none}
@@ -26,7 +27,7 @@ use Rattle.lxt_tables.proofs.TablesLaws.{known_given}
 use Rattle.lxt_tables.proofs.WholeLaws.{placed_given}
 use Rattle.lxt_changes.specs.Faults.{LastZero}
 use Rattle.lxt_chains.specs.Pending.{root_offsets}
-use Rattle.lxt_chains.specs.Reading.{Ready, examined_of, examined, facility_fault, facility_clean, root_offset, FirstOffsets, RootFault, Lowest, Between, Broken, chains_verdict}
+use Rattle.lxt_chains.specs.Reading.{Ready, examined_of, examined, tables_passed, facility_fault, facility_clean, root_offset, FirstOffsets, RootFault, Lowest, Between, Broken, chains_verdict}
 use Rattle.lxt_chains.specs.Sweep.{fitting, left, SweptAll, outcome_of, outcome}
 use Rattle.lxt_chains.specs.Groups.{Decides, Roots, ChainFault}
 use Rattle.lxt_chains.proofs.Lists.{each_range}
@@ -102,6 +103,15 @@ module _ (s : List ℕ) (t : Tables) (h : given t ≡ tables_read s) where
 pub tables_refused : {A : Type 0} (s : List ℕ) (a : A) (n : ℕ) → refused n ≡ tables_read s → refused n ≡ answer (file_refusal s) a
 unfolding file_refusal
 tables_refused s a n h = passed_on (tables_refusal s) (chains_refusal s or_else 17 unless changes_apart s) n (tables_of s) a h
+
+-- the tables of a file that refusals 1 to 14 refuse, and of one that they pass
+pub none_passed : (s : List ℕ) (n : ℕ) → refused n ≡ tables_read s → None ≡ tables_passed s
+unfolding tables_passed
+none_passed s n h = let w = was_refused (tables_refusal s) n (tables_of s) h in simp (ne_eqb (tables_refusal s) 0 w.1)
+
+pub some_passed : (s : List ℕ) (t : Tables) → given t ≡ tables_read s → Some t ≡ tables_passed s
+unfolding tables_passed
+some_passed s t h = let w = was_given (tables_refusal s) (tables_of s) t h in rw (w.0, w.1)
 
 pub count_asks : (s : List ℕ) (p : Sections) (t : Tables) → given p ≡ located s → given t ≡ tables_read s → Placed s p × (t.names_end ≡ after_names s)
 count_asks s p t hp ht = (placed_given s p hp, (known_given s t ht).names_end_lem)

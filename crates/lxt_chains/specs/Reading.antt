@@ -1,19 +1,22 @@
 -- What the functions of this crate ask of a file and of what it is read with.
-use Rattle.std.specs.Prelude.{ℕ, ◌≤◌, ◌<◌, ◌≡◌, Bool, true, List, length, get_or, eqb, if◌then◌else◌, Option, Some, None}
+use Rattle.std.specs.Prelude.{ℕ, ◌≤◌, ◌<◌, ◌≡◌, Bool, true, List, length, get_or, eqb, if◌then◌else◌, Option, Some, None, Result, Ok, Err}
 use Rattle.lxt_format.specs.Limits.{longest_file, most_facilities}
 use Rattle.lxt_format.specs.Sections.{end_of, changes_from}
-use Rattle.lxt_format.specs.Basics.{◌unless◌, ◌or_else◌, Answer, answer}
+use Rattle.lxt_format.specs.Basics.{◌unless◌, ◌or_else◌, Answer, given, refused, answer}
 use Rattle.lxt_format.specs.Geometry.{is_alias, geometries_allowed, sync_of}
-use Rattle.lxt_format.specs.Judge.{fault_from, clean_from, chains_refusal, changes_apart, file_refusal, all_clean}
+use Rattle.lxt_format.specs.Judge.{fault_from, clean_from, chains_refusal, changes_apart, tables_refusal, file_refusal, all_clean}
 use Rattle.lxt_format.specs.Changes.{previous_of}
 use Rattle.lxt_format.specs.Walk.{sort, top, high}
+use Rattle.lxt_format.specs.Answers.{refusal_number}
 use Rattle.lxt_tables.specs.Stage.{Geometry, tables_of}
 use Rattle.lxt_tables.specs.Asked.{Sync}
+use Rattle.lxt_tables.specs.declared.Tables.{Tables}
 use Rattle.lxt_changes.specs.Faults.{LastZero}
 use Rattle.lxt_chains.specs.Pending.{pending_changes, Each, Allowed}
 use Rattle.lxt_chains.specs.declared.chains.Chains.{Chains}
 use Rattle.lxt_chains.specs.declared.next.Taken.{Taken}
 use Rattle.lxt_chains.specs.declared.whole.Examined.{Examined}
+use Rattle.lxt_chains.specs.declared.whole.Rejected.{Rejected}
 
 -- the places of a file that refusals 1 to 14 pass
 pub record Ready (s : List ℕ) (c : Chains) : Type 0 where
@@ -92,3 +95,12 @@ examined_of s = record { clean = all_clean s; tables = tables_of s }
 
 abbrev pub examined : List ℕ → Answer Examined
 examined s = answer (file_refusal s) (examined_of s)
+
+-- the tables where refusals 1 to 14 pass, also of a file that 15 to 17 refuse
+unfoldable pub tables_passed : List ℕ → Option Tables
+tables_passed s = if eqb (tables_refusal s) 0 then Some (tables_of s) else None
+
+-- what is given; or the refusal, and these tables
+abbrev pub Tells : {A : Type 0} → List ℕ → Answer A → Result A Rejected → Type 0
+Tells s a (Ok x) = given x ≡ a
+Tells s a (Err r) = (refused (refusal_number r.refusal) ≡ a) × (r.tables ≡ tables_passed s)

@@ -74,7 +74,8 @@ fn others_pass(file: &[u8], c: Chains, kinds: u8, o: usize) -> bool
 }
 
 // The change at `o` has no fault as one of bits, if there are any. Only codes of 4 bits can be wrong. Where it has none,
-// the bytes of good codes that are known after that.
+// the bytes of good codes that are known after that. (Inlined: as a call it sends them through memory at each change.)
+#[inline(always)]
 fn bits_pass(file: &[u8], c: Chains, width: u32, o: usize, w: Window) -> Option<Window>
     requires { Ready file.now c × (Known file.now w × (width ≤ widest_facility)) }
     ensures { Judges file.now (FaultAs file.now (not (eqb width 0)) Kind.Bits width o) result }

@@ -12,7 +12,7 @@ pub fn count(file: &[u8]) -> Result<u32, Refusal>
     ensures { says result ≡ stray_asked file.now }
 {
     let p = lxt_sections::locate(file)?;
-    let t = lxt_tables::whole::tables_from(file, p)?;
+    let t = lxt_tables::whole::tables_from(file, Ok(p))?;
     let mut parts = bodies::bodies(file, p, t.names_end);
     free::put_in_order(&mut parts);
     let found = whole::chains_outcome(file, t, &parts)?;

@@ -4,7 +4,7 @@ ghost use Rattle.lxt_format.specs.Basics.{given, answer};
 ghost use Rattle.lxt_format.specs.Judge.{all_clean};
 ghost use Rattle.lxt_format.specs.Answers.{says};
 ghost use Rattle.lxt_tables.specs.Stage.{tables_read};
-ghost use Rattle.lxt_chains.specs.Reading.{Ready, Broken, chains_verdict, examined};
+ghost use Rattle.lxt_chains.specs.Reading.{Ready, Broken, chains_verdict, examined, Tells};
 ghost use Rattle.lxt_chains.specs.Free.{Ordered};
 ghost use Rattle.lxt_chains.specs.Sweep.{outcome};
 
@@ -65,14 +65,44 @@ pub struct Examined {
     pub tables: Tables,
 }
 
-pub fn judged(file: &[u8]) -> Result<Examined, Refusal>
-    ensures { says result ≡ examined file.now }
+// A refusal, of the file or of a question on it, and the file's tables where 1 to 14 pass.
+#[derive(Clone, Copy)]
+pub struct Rejected {
+    pub refusal: Refusal,
+    pub tables: Option<Tables>,
+}
+
+impl From<Rejected> for Refusal {
+    ghost from_gives = { λ r refusal. refusal ≡ r.refusal };
+
+    fn from(r: Rejected) -> Refusal {
+        r.refusal
+    }
+}
+
+// Inlined, so that its answer takes no stack of its own beside what the caller keeps of it.
+#[inline(always)]
+pub fn judged(file: &[u8]) -> Result<Examined, Rejected>
+    ensures { Tells file.now (examined file.now) result }
 {
-    let tables = lxt_tables::whole::tables(file)?;
+    let tables = match lxt_tables::whole::tables(file) {
+        Ok(tables) => tables,
+        Err(refusal) => {
+            return Err(Rejected {
+                refusal,
+                tables: None,
+            });
+        }
+    };
     // no parts: judging does not ask for free bytes
-    let found = chains_outcome(file, tables, &[])?;
-    Ok(Examined {
-        clean: found.clean,
-        tables,
-    })
+    match chains_outcome(file, tables, &[]) {
+        Ok(found) => Ok(Examined {
+            clean: found.clean,
+            tables,
+        }),
+        Err(refusal) => Err(Rejected {
+            refusal,
+            tables: Some(tables),
+        }),
+    }
 }

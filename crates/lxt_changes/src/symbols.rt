@@ -158,7 +158,9 @@ pub fn codes_allowed(file: &[u8], b: u32, width: u32, at: usize, w: Window) -> O
     if width % 2 == 0 {
         return Some(seen);
     }
-    if file[last] / 16 % 16 <= 8 {
+    let byte = file[last];
+    let code = byte / 16 % 16;
+    if code <= 8 {
         return Some(seen);
     }
     None

@@ -15,7 +15,9 @@ use lxt_chains::whole::judged;
 use lxt_format::{ColumnList, Refusal};
 use lxt_tables::{Tables, aliases};
 
-// Once all numbers are known to be those of facilities, and the roots of all facilities are in a table.
+// Once all numbers are known to be those of facilities, and the roots of all facilities are in a table. A call of its
+// own, so that its table takes no stack while the file is judged.
+#[inline(never)]
 fn by_roots(
     file: &[u8],
     t: Tables,

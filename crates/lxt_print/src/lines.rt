@@ -6,25 +6,24 @@ ghost use Rattle.lxt_format.specs.Names.{name_of};
 ghost use Rattle.lxt_format.specs.Times.{time_of};
 ghost use Rattle.lxt_format.specs.BiasedTimes.{biased, unbiased};
 ghost use Rattle.lxt_format.specs.Values.{content_of};
-ghost use Rattle.lxt_format.specs.Answers.{refusal_number};
 ghost use Rattle.lxt_chains.specs.Pending.{pair_of, Allowed};
 ghost use Rattle.lxt_print.specs.Lines.{decimal, signed_decimal, space, facility_line, change_line, done_line, refused_line, kind_word, value_text};
 ghost use Rattle.lxt_print.specs.Placing.{Opened, NamesAt, Put, facility_head, facility_end, change_head};
 
 use crate::text::{put_bytes, put_decimal, put_hex};
-use lxt_format::{Kind, Refusal, Value};
+use lxt_format::{Kind, Value};
 use lxt_sections::times::BIAS;
 use lxt_tables::Tables;
 use lxt_values::names::{NamesLeft, next};
 use lxt_values::value::read;
 
 // "refused" and the number.
-pub fn refused(refusal: Refusal, out: &mut [u8]) -> usize
+pub fn refused(k: u8, out: &mut [u8]) -> usize
     requires { 32 ≤ length out.old }
-    ensures { (result ≡ length (refused_line (refusal_number refusal))) × (out.new ≡ onto (refused_line (refusal_number refusal)) out.old) }
+    ensures { (result ≡ length (refused_line k)) × (out.new ≡ onto (refused_line k) out.old) }
 {
     let p = put_bytes(out, 0, b"refused ");
-    let q = put_decimal(out, p, u64::from(refusal.number()));
+    let q = put_decimal(out, p, u64::from(k));
     put_bytes(out, q, b"\n")
 }
 

@@ -66,10 +66,11 @@ pub struct Filled {
 fn printable(file: &[u8]) -> Result<Tables, Refusal>
     ensures { says result ≡ answer (print_refusal file.now) (tables_of file.now) }
 {
+    let examined = judged(file);
     if File::LONGEST_PRINTED < file.len() {
         return Err(Refusal::Length);
     }
-    Ok(judged(file)?.tables)
+    Ok(examined?.tables)
 }
 
 // A tree from which all changes are left.
@@ -116,7 +117,7 @@ pub fn begin(file: &[u8], name: &[u8], nodes: &mut [u32], line: &mut [u8]) -> Pr
         },
         Err(refusal) => Printing {
             at: 0,
-            size: lines::refused(refusal, line),
+            size: lines::refused(refusal.number(), line),
             rest: None,
         },
     }

@@ -4,19 +4,21 @@ use mathlib.Core.Path.{◌≡◌, refl, sym}
 use mathlib.Core.Bool.{true, false}
 use mathlib.Core.List.{List}
 use lib.Dec.{ltb}
+use Rattle.std.specs.Prelude.{Some}
 use borrow.Author.Tests.{lt-ltb, le-ltb, ltb-true}
 use Rattle.lxt_format.specs.Basics.{◌unless◌, given, refused, answer}
 use Rattle.lxt_format.specs.BasicsLaws.{neither, kept, answer_given, was_given, passed_on, same_refusal}
 use Rattle.lxt_format.specs.Sections.{facility_count}
 use Rattle.lxt_format.specs.Geometry.{is_alias, geometry_allowed, root_of, own_facts, facts_of}
 use Rattle.lxt_format.specs.Judge.{file_refusal}
+use Rattle.lxt_format.proofs.JudgeLaws.{accepted}
 use Rattle.lxt_format.specs.Questions.{facility_refusal, facts_asked, root_asked}
 use Rattle.lxt_format.specs.declared.Facts.{Facts}
 use Rattle.lxt_tables.specs.Stage.{Geometry, tables_of}
 use Rattle.lxt_tables.proofs.TablesLaws.{Known, tables_known, entry_allowed, root_in, root_plain}
-use Rattle.lxt_chains.specs.Reading.{examined_of, examined}
+use Rattle.lxt_chains.specs.Reading.{examined_of, examined, tables_passed}
 use Rattle.lxt_chains.specs.declared.whole.Examined.{Examined}
-use Rattle.lxt_chains.proofs.JudgedLaws.{accepted as judged_accepted}
+use Rattle.lxt_chains.proofs.JudgedLaws.{accepted as judged_accepted, with_tables}
 use Rattle.lxt_reader.specs.Asking.{asked_of, asked}
 use Rattle.lxt_reader.specs.declared.facilities.Asked.{Asked}
 use lib.Dec.{lit<}
@@ -36,6 +38,10 @@ module _ (s : List ℕ) (f : ℕ) (x : Examined) (h : given x ≡ examined s) wh
 
   pub geometry_there : Geometry s x.tables.geometry x.tables.facilities
   geometry_there = known.geometry_at
+
+  -- the tables that go with the refusal of the facility
+  pub tables_go : Some x.tables ≡ tables_passed s
+  tables_go = with_tables s x.tables (accepted s file_fine).tables (judged_accepted s x h).tables
 
   pub not_below : x.tables.facilities ≤ f → refused 18 ≡ asked s f
   unfolding facility_refusal

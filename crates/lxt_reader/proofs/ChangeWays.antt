@@ -5,6 +5,7 @@ use mathlib.Core.Bool.{Bool, true, false, ◌||◌}
 use mathlib.Core.List.{List, ◌∷◌}
 use lib.ListN.{length}
 use lib.Dec.{eqb}
+use Rattle.std.specs.Prelude.{Some}
 use native.Mathlib.Omega.{arith}
 use lib.Dec.{lit<}
 use borrow.Author.Tests.{eq-eqb, ne_eqb}
@@ -23,6 +24,8 @@ use Rattle.lxt_values.specs.Times.{Readable, change}
 use Rattle.lxt_format.proofs.ValuesLaws.{change_sound}
 use Rattle.lxt_values.proofs.SoundChains.{chain_readable}
 use Rattle.lxt_tables.specs.Stage.{tables_of}
+use Rattle.lxt_chains.specs.Reading.{tables_passed}
+use Rattle.lxt_chains.proofs.JudgedLaws.{with_tables}
 use Rattle.lxt_reader.specs.Asking.{asked}
 use Rattle.lxt_reader.specs.Changing.{chain_at}
 use Rattle.lxt_reader.specs.declared.facilities.Asked.{Asked}
@@ -125,6 +128,10 @@ module _ (s : List ℕ) (f o : ℕ) (c : Chain) (h : given c ≡ answer (facilit
   chain_reads =
       let k = tables_known s c.tables w.tables (file_of s f w.fine) in
       chain_readable s _ c.start w.fault (omega (arith, k.end_high, k.end))
+
+  -- the tables that go with the refusal of the change
+  pub chain_tables : Some c.tables ≡ tables_passed s
+  chain_tables = with_tables s c.tables (accepted s (file_of s f w.fine)).tables w.tables
 
   module _ (z : Bool) (ez : z ≡ any (eqb o) (chain_of s c.start)) where
     on_chain_is : z ≡ any (eqb o) (chain_asked s f)

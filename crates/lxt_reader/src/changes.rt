@@ -4,10 +4,12 @@ ghost use Rattle.lxt_format.specs.Basics.{answer, any};
 ghost use Rattle.lxt_format.specs.Changes.{chain_of};
 ghost use Rattle.lxt_format.specs.Answers.{says};
 ghost use Rattle.lxt_format.specs.Questions.{facility_refusal, change_refusal, before_asked};
+ghost use Rattle.lxt_chains.specs.Reading.{Tells};
 ghost use Rattle.lxt_values.specs.Times.{Readable};
 ghost use Rattle.lxt_reader.specs.Changing.{chain_at};
 
 use crate::facilities::ask;
+use lxt_chains::whole::Rejected;
 use lxt_changes::delta;
 use lxt_format::{Facts, Refusal};
 use lxt_tables::{Tables, geometry};
@@ -21,8 +23,8 @@ pub struct Chain {
 }
 
 // Judges the file, then looks for the facility and its root's chain.
-pub fn find_chain(file: &[u8], facility: u32) -> Result<Chain, Refusal>
-    ensures { says result ≡ answer (facility_refusal file.now facility) (chain_at file.now facility) }
+pub fn find_chain(file: &[u8], facility: u32) -> Result<Chain, Rejected>
+    ensures { Tells file.now (answer (facility_refusal file.now facility) (chain_at file.now facility)) result }
 {
     let a = ask(file, facility)?;
     let t = a.tables;
@@ -52,12 +54,15 @@ fn on_chain(file: &[u8], start: usize, o: usize) -> bool
 }
 
 // The same for a question on a change, which is to be on the chain.
-pub fn find_change(file: &[u8], facility: u32, offset: u32) -> Result<Chain, Refusal>
-    ensures { says result ≡ answer (change_refusal file.now facility offset) (chain_at file.now facility) }
+pub fn find_change(file: &[u8], facility: u32, offset: u32) -> Result<Chain, Rejected>
+    ensures { Tells file.now (answer (change_refusal file.now facility offset) (chain_at file.now facility)) result }
 {
     let c = find_chain(file, facility)?;
     if !on_chain(file, c.start as usize, offset as usize) {
-        return Err(Refusal::Offset);
+        return Err(Rejected {
+            refusal: Refusal::Offset,
+            tables: Some(c.tables),
+        });
     }
     Ok(c)
 }

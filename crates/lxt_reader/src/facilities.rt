@@ -2,9 +2,10 @@
 ghost use Rattle.std.specs.Prelude.{◌≡◌};
 ghost use Rattle.lxt_format.specs.Answers.{says};
 ghost use Rattle.lxt_format.specs.Questions.{facts_asked, root_asked};
+ghost use Rattle.lxt_chains.specs.Reading.{Tells};
 ghost use Rattle.lxt_reader.specs.Asking.{asked};
 
-use lxt_chains::whole::judged;
+use lxt_chains::whole::{Rejected, judged};
 use lxt_format::{Facts, Refusal};
 use lxt_tables::Tables;
 
@@ -16,12 +17,15 @@ pub struct Asked {
 }
 
 // Judges the file, then looks for the facility.
-pub fn ask(file: &[u8], facility: u32) -> Result<Asked, Refusal>
-    ensures { says result ≡ asked file.now facility }
+pub fn ask(file: &[u8], facility: u32) -> Result<Asked, Rejected>
+    ensures { Tells file.now (asked file.now facility) result }
 {
     let tables = judged(file)?.tables;
     if tables.facilities <= facility {
-        return Err(Refusal::Facility);
+        return Err(Rejected {
+            refusal: Refusal::Facility,
+            tables: Some(tables),
+        });
     }
     let root = tables.geometry(file).root(facility);
     Ok(Asked { root, tables })

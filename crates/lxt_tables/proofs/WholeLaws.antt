@@ -14,10 +14,12 @@ use mir.Val.{SFits, to_z, of_z}
 use mir.ValLaws.{to_z-of_z}
 use borrow.Author.Tests.{ne_eqb, leb-true, eqb-false}
 use Rattle.lxt_format.specs.Limits.{shortest_file, longest_file, most_facilities}
-use Rattle.std.specs.Prelude.{if◌then◌else◌, Some, None}
+use Rattle.std.specs.Prelude.{if◌then◌else◌, Some, None, Result, Err}
 use Rattle.std.proofs.lemmas.Option.{none-some, same_Some}
 use Rattle.lxt_format.specs.Basics.{◌unless◌, ◌or_else◌, Answer, given, refused, answer, range, all, any}
 use Rattle.lxt_format.specs.BasicsLaws.{on_test, and_both, neither, kept, was_given, was_refused, passed_on, refuses}
+use Rattle.lxt_format.specs.Answers.{refusal_number, says}
+use Rattle.lxt_format.specs.declared.refusal.Refusal.{Refusal}
 use Rattle.lxt_format.specs.Bytes.{u32_at}
 use Rattle.lxt_format.specs.Sections.{length_allowed, starts_right, ends_right, listing_of, nothing_compressed, times_once, present, sections_present, body_size, bodies_inside, inside, count_allowed, section_of, end_of, facility_count, time_count, timescale_of, initial_of}
 use Rattle.lxt_format.specs.SectionsLaws.{Located, located as all_located, body_inside_lem}
@@ -265,6 +267,10 @@ all_named s k h = on_test (names_allowed s) (λ e. (e, same_Some k (after_names 
 -- a refusal of 1 to 9 is that of the file
 pub located_bad : (s : List ℕ) (n : ℕ) → refused n ≡ located s → refused n ≡ tables_read s
 located_bad s n h = rw (in_parts s) (passed_on (sections_refusal s) _ n (sections_of s) (tables_of s) h)
+
+-- so is one that is given in place of the sections
+pub given_bad : (s : List ℕ) (r : Result Sections Refusal) (e : Refusal) → r ≡ Err e → says r ≡ located s → refused (refusal_number e) ≡ tables_read s
+given_bad s r e h g = located_bad s (refusal_number e) (ap says (sym h) ∙ g)
 
 module _ (s : List ℕ) (z : sections_refusal s ≡ 0) where
   pub names_bad : names_allowed s ≡ false → refused 10 ≡ tables_read s

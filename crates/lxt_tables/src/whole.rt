@@ -77,7 +77,7 @@ fn passed(file: &[u8], p: Sections, names_end: u32, order: [u8; 8]) -> Tables
 }
 
 // What refusals 1 to 14 pass, or the refusal, by the sections of the file, which 1 to 9 pass.
-pub fn tables_from(file: &[u8], p: Sections) -> Result<Tables, Refusal>
+fn tables_by(file: &[u8], p: Sections) -> Result<Tables, Refusal>
     requires { given p ≡ located file.now }
     ensures { says result ≡ tables_read file.now }
 {
@@ -89,10 +89,17 @@ pub fn tables_from(file: &[u8], p: Sections) -> Result<Tables, Refusal>
     Ok(passed(file, p, names_end, order))
 }
 
+// The same by what locating them answers, of any file.
+pub fn tables_from(file: &[u8], sections: Result<Sections, Refusal>) -> Result<Tables, Refusal>
+    requires { says sections ≡ located file.now }
+    ensures { says result ≡ tables_read file.now }
+{
+    tables_by(file, sections?)
+}
+
 // What refusals 1 to 14 pass, or the refusal.
 pub fn tables(file: &[u8]) -> Result<Tables, Refusal>
     ensures { says result ≡ tables_read file.now }
 {
-    let p = lxt_sections::locate(file)?;
-    tables_from(file, p)
+    tables_from(file, lxt_sections::locate(file))
 }

@@ -151,13 +151,6 @@ module _ (s : List ℕ) (b width o : ℕ) (a : Packed s b width o) (d₀ d : Lis
 
 -- ---- all steps
 
--- as many steps as there are whole bytes
-pub stepped : (s : List ℕ) (b width o : ℕ) (d₀ d : List ℕ) (k : ℕ) → Stepping s b width o d₀ d k → width / (8 / b) ≤ k → Stepping s b width o d₀ d (width / (8 / b))
-stepped s b width o d₀ d k w h =
-    let u = w.upto in
-    let e : k ≡ width / (8 / b) = omega arith in
-    rw e at w
-
 -- a part of a list is laid behind what is there
 part_laid : (new : List ℕ) (n : ℕ) (d₀ d : List ℕ) (i : ℕ) → Laid new n d₀ d i → (t : List ℕ) → i + length t ≤ n → t ≡ take (length t) (drop i new)
     → Laid new n d₀ (placed d i t) (i + length t)

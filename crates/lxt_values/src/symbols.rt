@@ -110,15 +110,18 @@ fn unpack(file: &[u8], at: usize, b: usize, width: usize, bits: &mut [u8]) -> us
 {
     let places = 8 / b;
     let whole = width / places;
-    for k in 0..whole {
-        step(file, at, b, k, places, bits);
+    // the loop's own count, and not the number of turns that is asked for
+    let mut steps: usize = 0;
+    for _k in 0..whole {
+        step(file, at, b, steps, places, bits);
+        steps += 1;
     }
-    let left = width - places * whole;
+    let left = width - places * steps;
     if left == 0 {
-        return whole;
+        return steps;
     }
-    step(file, at, b, whole, left, bits);
-    whole + 1
+    step(file, at, b, steps, left, bits);
+    steps + 1
 }
 
 // The symbols of the change at `o`, at the first `width` places; what stands after them stays.

@@ -8,7 +8,7 @@ use Rattle.lxt_column.proofs.column.Goals as goal
 pub returns-in_err-t : goal.returns-in_err-t
 returns-in_err-t c =
     let p = err_from_is_err_and c.from_residual.result c.from_residual.ensures.1 in
-    let all = file_refused c.args.file.now c.args.time c.args.facilities.now (length c.args.text.now) c.args.bits.now c.args.records.now _ c.in_err-t.ensures in
+    let all = file_refused c.args.file.now c.args.time c.args.facilities.now (length c.args.text.now) c.args.bits.now c.args.records.now _ c.in_err-t.ensures.0 in
     rw (p.1, p.2) (record { result_value = all.0; bits_after = all.1.0; records_after = all.1.1 })
 
 pub returns-then-not-length_is_allowed : goal.returns-then-not-length_is_allowed

@@ -20,10 +20,10 @@ returns-then-width-eq0 c = even _ _ _ _ _ c.requires.0 c.requires.1 c.if-b-ne4.f
 pub bounds-file-last : goal.bounds-file-last
 bounds-file-last c = (last_within _ _ _ _ _ c.requires.0 c.requires.1 c.if-b-ne4.false).1 c.if-width-eq0.false
 
-pub returns-then-file-last-le8 : goal.returns-then-file-last-le8
-returns-then-file-last-le8 c =
-    odd _ _ _ _ _ c.requires.0 c.requires.1 c.if-b-ne4.false _ refl _ c.in_ok-seen.ensures c.if-width-eq0.false c.if-file-last-le8.true
+pub returns-then-code-le8 : goal.returns-then-code-le8
+returns-then-code-le8 c =
+    odd _ _ _ _ _ c.requires.0 c.requires.1 c.if-b-ne4.false _ refl _ c.in_ok-seen.ensures c.if-width-eq0.false c.if-code-le8.true
 
 pub returns : goal.returns
 returns c =
-    odd_wrong _ _ _ _ _ c.requires.0 c.requires.1 c.if-b-ne4.false _ refl _ c.in_ok-seen.ensures c.if-width-eq0.false c.if-file-last-le8.false
+    odd_wrong _ _ _ _ _ c.requires.0 c.requires.1 c.if-b-ne4.false _ refl _ c.in_ok-seen.ensures c.if-width-eq0.false c.if-code-le8.false

@@ -8,4 +8,4 @@ pub returns-in-Ok : goal.returns-in-Ok
 returns-in-Ok c = lines_left_lem _ _ _ _ c.requires _ (rw c.in-Ok.is at c.printable.ensures) _ _ c.all_lines.ensures
 
 pub returns-in-Err : goal.returns-in-Err
-returns-in-Err c = let line = c.refused.ensures in refusal_left _ _ _ _ c.requires _ (rw c.in-Err.is at c.printable.ensures) _ _ line.0 line.1
+returns-in-Err c = let line = rw c.number.ensures at c.refused.ensures in refusal_left _ _ _ _ c.requires _ (rw c.in-Err.is at c.printable.ensures) _ _ line.0 line.1

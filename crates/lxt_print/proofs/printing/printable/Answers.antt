@@ -6,8 +6,8 @@ use Rattle.lxt_print.proofs.printing.printable.Goals as goal
 pub returns-then-file-gt-LONGEST_PRINTED : goal.returns-then-file-gt-LONGEST_PRINTED
 returns-then-file-gt-LONGEST_PRINTED c = too_long _ c.if-file-gt-LONGEST_PRINTED.true
 
-pub returns-in_err-judged : goal.returns-in_err-judged
-returns-in_err-judged c = says_passed c.from_residual.result _ c.from_residual.ensures.1 ∙ judged_refused _ c.if-file-gt-LONGEST_PRINTED.false _ c.in_err-judged.ensures
+pub returns-in_err-examined : goal.returns-in_err-examined
+returns-in_err-examined c = says_passed c.from_residual.result _ c.from_residual.ensures.1 ∙ judged_refused _ c.if-file-gt-LONGEST_PRINTED.false _ c.in_err-examined.ensures.0
 
 pub returns : goal.returns
-returns c = judged_given _ c.if-file-gt-LONGEST_PRINTED.false _ c.in_ok-judged.ensures
+returns c = judged_given _ c.if-file-gt-LONGEST_PRINTED.false _ c.in_ok-examined.ensures

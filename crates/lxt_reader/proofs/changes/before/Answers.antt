@@ -5,7 +5,7 @@ use Rattle.lxt_reader.proofs.ChangeWays.{before_refused, change_inside, before_s
 use Rattle.lxt_reader.proofs.changes.before.Goals as goal
 
 pub returns-in_err-find_change : goal.returns-in_err-find_change
-returns-in_err-find_change c = says_passed c.from_residual.result _ c.from_residual.ensures.1 ∙ before_refused _ _ _ _ c.in_err-find_change.ensures
+returns-in_err-find_change c = says_passed c.from_residual.result _ c.from_residual.ensures.1 ∙ before_refused _ _ _ _ c.in_err-find_change.ensures.0
 
 pub previous-requires : goal.previous-requires
 previous-requires c = change_inside _ _ _ _ c.in_ok-find_change.ensures

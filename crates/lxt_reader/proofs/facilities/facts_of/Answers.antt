@@ -7,7 +7,7 @@ use Rattle.lxt_reader.proofs.facilities.facts_of.Goals as goal
 
 pub returns-in_err-a : goal.returns-in_err-a
 unfolding facts_asked
-returns-in_err-a c = says_passed c.from_residual.result _ c.from_residual.ensures.1 ∙ asked_refused _ _ (facts_of c.args.file.now c.args.facility) _ c.in_err-a.ensures
+returns-in_err-a c = says_passed c.from_residual.result _ c.from_residual.ensures.1 ∙ asked_refused _ _ (facts_of c.args.file.now c.args.facility) _ c.in_err-a.ensures.0
 
 pub geometry-requires : goal.geometry-requires
 geometry-requires c = (all_known _ _ _ c.in_ok-a.ensures).geometry_at

@@ -8,7 +8,7 @@ use Rattle.lxt_reader.proofs.texts.place_at.Goals as goal
 pub returns-in_err-chain : goal.returns-in_err-chain
 returns-in_err-chain c =
     let p = err_from_is_err_and c.from_residual.result c.from_residual.ensures.1 in
-    rw (p.1, p.2) (text_refused _ _ c.args.time _ _ c.in_err-chain.ensures)
+    rw (p.1, p.2) (text_refused _ _ c.args.time _ _ c.in_err-chain.ensures.0)
 
 pub returns-in_default : goal.returns-in_default
 returns-in_default c = text_another _ _ c.args.time _ _ (chained _ _ _ c.in_ok-chain.ensures) c.in_default.not-Text

@@ -7,7 +7,7 @@ use Rattle.lxt_reader.proofs.values.at_time.Goals as goal
 pub returns-in_err-chain : goal.returns-in_err-chain
 returns-in_err-chain c =
     let p = err_from_is_err_and c.from_residual.result c.from_residual.ensures.1 in
-    rw (p.1, p.2) (value_refused _ _ _ c.args.bits.now _ c.in_err-chain.ensures)
+    rw (p.1, p.2) (value_refused _ _ _ c.args.bits.now _ c.in_err-chain.ensures.0)
 
 pub returns-then-bits-facts : goal.returns-then-bits-facts
 returns-then-bits-facts c = value_short _ _ _ c.args.bits.now _ (chained _ _ _ c.in_ok-chain.ensures) c.if-bits-facts.true

@@ -6,7 +6,7 @@ use Rattle.lxt_reader.proofs.values.of_change.Goals as goal
 pub returns-in_err-c : goal.returns-in_err-c
 returns-in_err-c c =
     let p = err_from_is_err_and c.from_residual.result c.from_residual.ensures.1 in
-    rw (p.1, p.2) (change_refused _ _ _ c.args.bits.now _ c.in_err-c.ensures)
+    rw (p.1, p.2) (change_refused _ _ _ c.args.bits.now _ c.in_err-c.ensures.0)
 
 pub returns-then-bits-facts : goal.returns-then-bits-facts
 returns-then-bits-facts c = change_short _ _ _ c.args.bits.now _ (looked _ _ _ _ c.in_ok-c.ensures) c.if-bits-facts.true

@@ -6,7 +6,7 @@ use Rattle.lxt_walk.proofs.start.start.Goals as goal
 pub returns-in_err-t : goal.returns-in_err-t
 returns-in_err-t c =
     rw (says_passed c.from_residual.result _ c.from_residual.ensures.1)
-    (start_refused _ c.args.asked.now c.args.numbers.now c.args.offsets.now _ c.in_err-t.ensures)
+    (start_refused _ c.args.asked.now c.args.numbers.now c.args.offsets.now _ c.in_err-t.ensures.0)
 
 pub returns-then-numbers-n : goal.returns-then-numbers-n
 returns-then-numbers-n c = start_no_room _ _ _ _ _ c.in_ok-t.ensures c.if-numbers-n.true
