@@ -103,6 +103,18 @@ module _ (s : List ℕ) (from to p : ℕ) (w : Down s from to p) where
         good = λ i a b. elim (ℕ_discrete i (p - 1)) [ yes q ↦ rw q (sym e ∙ h) | no n ↦ w.good i (omega arith) b ];
       }
 
+-- all of them are known to be good
+pub all_scanned : (s : List ℕ) (from to : ℕ) → from ≤ to → (z : Bool) → z ≡ all_good s from to → z ≡ true → Scanned s from to from
+unfolding all_good
+all_scanned s from to l z e h =
+    let g : all_good s from to ≡ true = sym e ∙ h in
+    record {
+      high = l;
+      good = λ i a b. all_range (λ j. good_byte (byte_at s j)) from (to - from) g i a (omega arith);
+      stop = λ k. absurd (omega arith);
+      low = λ k. omega arith;
+    }
+
 -- ---- scanning up
 
 -- what holds where the bytes from `from` up to p are known to be good

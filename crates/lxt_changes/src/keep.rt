@@ -49,8 +49,9 @@ pub fn symbols_fit(file: &[u8], end: usize, width: u32, o: usize) -> bool
 }
 
 // All bytes from `from` up to `to` hold only codes of symbols. Every byte is read, so that the loop has no
-// way out and is made wide; where changes share no byte, each is read once.
-fn all_good(file: &[u8], from: usize, to: usize) -> bool
+// way out and is made wide; where changes share no byte, each is read once. (Inlined: it runs for each change.)
+#[inline(always)]
+pub(crate) fn all_good(file: &[u8], from: usize, to: usize) -> bool
     requires { (from ≤ to) × (to ≤ length file.now) }
     ensures { result ≡ all_good file.now from to }
 {

@@ -5,6 +5,7 @@ ghost use Rattle.lxt_format.specs.Limits.{widest_facility};
 ghost use Rattle.lxt_format.specs.Changes.{command_allowed, symbol_size, packed_size, codes_allowed};
 ghost use Rattle.lxt_changes.specs.Windows.{good_byte, all_good, Scanned, ScannedUp, Known, Answered, Data};
 
+use crate::keep;
 use lxt_format::Kind;
 
 // The two highest bits are 0, and the command is one of the kind's.
@@ -46,11 +47,18 @@ pub fn good(byte: u8) -> bool
     (byte / 16 % 16 <= 8) & (byte % 16 <= 8)
 }
 
-// The lowest offset from which on, up to `to`, all bytes are good; `from` bounds the search.
+// From so many bytes on, a loop without a way out is faster, although it may read bytes that tell nothing.
+const MANY: usize = 64;
+
+// The lowest offset from which on, up to `to`, all bytes are good; `from` bounds the search. Both lie in one change, so
+// that at most its bytes are read twice.
 fn good_from(file: &[u8], from: usize, to: usize) -> usize
     requires { to ≤ length file.now }
     ensures { Scanned file.now from to result }
 {
+    if (MANY <= to.saturating_sub(from)) && keep::all_good(file, from, to) {
+        return from;
+    }
     for p in (from..to).rev() {
         if !good(file[p]) {
             return p + 1;
