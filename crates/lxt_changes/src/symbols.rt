@@ -50,8 +50,8 @@ pub fn good(byte: u8) -> bool
 // From so many bytes on, a loop without a way out is faster, although it may read bytes that tell nothing.
 const MANY: usize = 64;
 
-// The lowest offset from which on, up to `to`, all bytes are good; `from` bounds the search. Both lie in one change, so
-// that at most its bytes are read twice.
+// The lowest offset from which on, up to `to`, all bytes are good; `from` bounds the search. Where there is a byte
+// between them both lie in one change, so that at most its bytes are read twice.
 fn good_from(file: &[u8], from: usize, to: usize) -> usize
     requires { to ≤ length file.now }
     ensures { Scanned file.now from to result }
